@@ -17,12 +17,14 @@ use Rattle.arp_acd.specs.History.{AcdEvent, moment, acd_step, acd_after, acd_his
 -- No address passes before three probes were sent, a second or more apart, and two seconds of quiet after the third:
 -- from the first of the three on no send failed and no packet contested the address. Nor is a probe whose send failed
 -- among the three: three were sent since the last send that failed.
-pub record PassesProbed (own : List Mac) (addr : Ip4) (start : Acd) (past : List AcdEvent) (event : AcdEvent) : Type 0 where
+pub record PassesProbed (own : List Mac) (addr : Ip4) (start : Acd) (past : List AcdEvent)
+    (event : AcdEvent) : Type 0 where
   pub probed : Probes own addr PROBE_NUM ANNOUNCE_WAIT (moment event) (acd_history own start past)
   pub counted : probes_sent (acd_history own start past) ≡ PROBE_NUM
 
 abbrev pub PassesAfterProbes : Type 0
-PassesAfterProbes = (own : List Mac) (iface : IfIndex) (addr : Ip4) (at salt : ℕ) (past : List AcdEvent) (event : AcdEvent)
+PassesAfterProbes =
+    (own : List Mac) (iface : IfIndex) (addr : Ip4) (at salt : ℕ) (past : List AcdEvent) (event : AcdEvent)
     → let start : Acd = acd_begun iface addr at salt in
     (acd_step own (acd_after own start past) event).says ≡ Passed → PassesProbed own addr start past event
 
@@ -44,9 +46,11 @@ pub record AnswersConflict (before at : ℕ) (step : AcdStep) : Type 0 where
   pub late : before + DEFEND_INTERVAL ≤ at → step.says ≡ SayAnnounce
 
 abbrev pub GivesUpContestedTwice : Type 0
-GivesUpContestedTwice = (own : List Mac) (iface : IfIndex) (addr : Ip4) (at salt : ℕ) (past : List AcdEvent) (arp : ArpView) (now : ℕ)
+GivesUpContestedTwice =
+    (own : List Mac) (iface : IfIndex) (addr : Ip4) (at salt : ℕ) (past : List AcdEvent) (arp : ArpView) (now : ℕ)
     → let start : Acd = acd_begun iface addr at salt in
     let acd : Acd = acd_after own start past in
     let step : AcdStep = acd_hears own acd arp now in
     IsInUse acd.phase → is_used own addr arp ≡ true
-    → MatchOption (last_defence (acd_history own start past)) (step.says ≡ SayAnnounce) (λ before. AnswersConflict before now step)
+    → MatchOption (last_defence (acd_history own start past)) (step.says ≡ SayAnnounce)
+    (λ before. AnswersConflict before now step)

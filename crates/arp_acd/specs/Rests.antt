@@ -12,5 +12,6 @@ early acd at salt h = ap (λ b. if b then tick_row acd acd.phase at salt else st
 pub tick_rests : (old new : Acd) (at salt : ℕ) (says : AcdSays) → is_due (due_of old.phase) at ≡ false
     → IsStep (acd_tick old (moment_of at) salt) new says → (new ≡ old) × IsQuiet says
 tick_rests old new at salt says h step =
-    let e : acd_tick old (moment_of at) salt ≡ stays old = early old (moment_of at) salt (not_due-moment_of (due_of old.phase) at h) in
+    let e : acd_tick old (moment_of at) salt ≡ stays old =
+    early old (moment_of at) salt (not_due-moment_of (due_of old.phase) at h) in
     (step.goes_on ∙ ap (λ (s : AcdStep). s.acd) e, step.answers ∙ ap (λ (s : AcdStep). s.says) e)

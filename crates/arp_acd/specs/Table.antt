@@ -69,8 +69,8 @@ tick_row acd Over at salt = stays acd
 abbrev pub acd_tick : Acd → (at salt : ℕ) → AcdStep
 acd_tick acd at salt = if is_due (due_of acd.phase) at then tick_row acd acd.phase at salt else stays acd
 
--- A conflict over an address that has passed. With none before, or the last one DEFEND_INTERVAL ago or more, the address is
--- defended by an announcement; else it is given up.
+-- A conflict over an address that has passed. With none before, or the last one DEFEND_INTERVAL ago or more, the
+-- address is defended by an announcement; else it is given up.
 abbrev pub contested_row : Acd → (last : Option ℕ) → (at : ℕ) → (defended : Phase) → AcdStep
 contested_row acd None at defended = moves acd defended SayAnnounce
 contested_row acd (Some last) at defended =
@@ -78,7 +78,8 @@ contested_row acd (Some last) at defended =
 
 abbrev pub heard_row : List Mac → Acd → Phase → ArpView → (at : ℕ) → AcdStep
 -- Probing: a conflict ends it.
-heard_row own acd (Probing sent due) arp at = if is_contested own acd.addr arp then moves acd Over Conflict else stays acd
+heard_row own acd (Probing sent due) arp at =
+    if is_contested own acd.addr arp then moves acd Over Conflict else stays acd
 -- Announcing and Held: the address is defended, which leaves the due moment as it is, or given up.
 heard_row own acd (Announcing due last) arp at =
     if is_used own acd.addr arp then contested_row acd last at (Announcing due (Some at)) else stays acd

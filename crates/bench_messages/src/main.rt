@@ -149,7 +149,8 @@ fn indexed_values_sum(options: &OptionView) -> usize {
     all
 }
 
-/// The sum over the values: of their bytes where they are copied, else of the numbers and addresses and of the bytes of the others.
+/// The sum over the values: of their bytes where they are copied, else of the numbers and addresses and of the bytes of
+/// the others.
 fn values_sum(alloc: Global, way: Way, message: &Msg4) -> Result<usize, NoMemory> {
     let mut all = 0usize;
     for code in CODES {

@@ -11,8 +11,8 @@ use v6_options::{dns6_of, search6_of};
 /// How many readings there are without an argument.
 const READINGS: u32 = 100_000;
 
-/// A Reply: type and xid; the client's DUID; the server's; an IA_NA with an address; an IA_PD with a prefix; a server of
-/// names; a search list.
+/// A Reply: type and xid; the client's DUID; the server's; an IA_NA with an address; an IA_PD with a prefix; a server
+/// of names; a search list.
 const REPLY: [u8; 148] = *b"\x07\x00\x00\x02\
     \x00\x01\x00\x0a\x00\x03\x00\x01\x02\x00\x00\x00\x00\x01\
     \x00\x02\x00\x0a\x00\x03\x00\x01\x02\x00\x00\x00\x00\x63\

@@ -75,7 +75,8 @@ record FitsPacket (packet : Packet) : Type 0 where
 packets_fit : (steps : ℕ) (form : Form) (bytes : List ℕ) → AreBytes bytes → AllByRecursion FitsPacket (packets_within steps form bytes)
 packets_fit zero form bytes octets = tt
 packets_fit (suc steps) form bytes octets =
-    elim (has_packet form bytes) as (λ has. AllByRecursion FitsPacket (cond has (packet_at form bytes ∷ packets_within steps form (after_packet form bytes)) [])) [
+    elim (has_packet form bytes) as
+    (λ has. AllByRecursion FitsPacket (cond has (packet_at form bytes ∷ packets_within steps form (after_packet form bytes)) [])) [
       | true ↦ (
         record { at = early form bytes octets; octets = take_bytes (size_at form bytes) (drop 16 bytes) (drop_bytes 16 bytes octets) },
         packets_fit steps form (after_packet form bytes) (drop_bytes (size_at form bytes) (drop 16 bytes) (drop_bytes 16 bytes octets)),
@@ -90,7 +91,8 @@ record FitsUsed (packet : Packet) : Type 0 where
 
 has_room : (own : List ℕ) (packet : Packet) → is_used own packet ≡ true → length packet.bytes ≤ 2048
 has_room own packet used =
-    elim (leb (length packet.bytes) 2048) as (λ room. leb (length packet.bytes) 2048 ≡ room → (room && not (is_own own packet.bytes)) ≡ true → length packet.bytes ≤ 2048) [
+    elim (leb (length packet.bytes) 2048) as
+    (λ room. leb (length packet.bytes) 2048 ≡ room → (room && not (is_own own packet.bytes)) ≡ true → length packet.bytes ≤ 2048) [
       | true ↦ λ room is. leb-true (length packet.bytes) 2048 room
       | false ↦ λ room is. let never : ⊥ = cc in absurd never
     ] refl used
@@ -98,7 +100,8 @@ has_room own packet used =
 used_fit : (own : List ℕ) (packets : List Packet) → AllByRecursion FitsPacket packets → AllByRecursion FitsUsed (filter (is_used own) packets)
 used_fit own [] fit = tt
 used_fit own (packet ∷ packets) fit =
-    elim (is_used own packet) as (λ used. is_used own packet ≡ used → AllByRecursion FitsUsed (cond used (packet ∷ filter (is_used own) packets) (filter (is_used own) packets))) [
+    elim (is_used own packet) as
+    (λ used. is_used own packet ≡ used → AllByRecursion FitsUsed (cond used (packet ∷ filter (is_used own) packets) (filter (is_used own) packets))) [
       | true ↦ λ used. (record { fits = fit.0; room = has_room own packet used }, used_fit own packets fit.1)
       | false ↦ λ used. used_fit own packets fit.1
     ] refl
@@ -113,7 +116,12 @@ turns_fit : (packets : List Packet) → AllByRecursion FitsUsed packets → AllB
 turns_fit [] fit = tt
 turns_fit (packet ∷ packets) fit =
     let used = fit.0 in (
-      record { at = used.fits.at; salt = omega arith; event = (omega arith, omega arith); bytes = record { whole = refl; room = used.room; octets = used.fits.octets } },
+      record {
+        at = used.fits.at;
+        salt = omega arith;
+        event = (omega arith, omega arith);
+        bytes = record { whole = refl; room = used.room; octets = used.fits.octets };
+      },
       turns_fit packets fit.1,
     )
 
@@ -151,7 +159,8 @@ one_fits name mac named addressed = record {
 abbrev CrashesBefore : LifeScript → LifeScript → Type 0
 CrashesBefore life later = IsTrue (is_some life.crash)
 
-script_fits : (name : Name) (mac : Mac) (packets : List Packet) → FitsName name → FitsMac mac → AllByRecursion FitsUsed packets → FitsScript (captured_script (spec_of name mac) packets)
+script_fits : (name : Name) (mac : Mac) (packets : List Packet) → FitsName name → FitsMac mac → AllByRecursion FitsUsed packets
+    → FitsScript (captured_script (spec_of name mac) packets)
 unfolding captured_script
 script_fits name mac packets named addressed fit = record {
   conf = All-nil (Lacks 10);
@@ -196,9 +205,11 @@ script_spelled name mac packets named addressed fit = record {
 
 lines_join : (front back : List Line) → lines_text front ++ lines_text back ≡ lines_text (front ++ back)
 lines_join [] back = refl
-lines_join (line ∷ front) back = append_assoc (ended line) (lines_text front) (lines_text back) ∙ ap (λ (more : List ℕ). ended line ++ more) (lines_join front back)
+lines_join (line ∷ front) back =
+    append_assoc (ended line) (lines_text front) (lines_text back) ∙ ap (λ (more : List ℕ). ended line ++ more) (lines_join front back)
 
-pub imported : (bytes records middle text : List ℕ) (form : Form) (name : Name) (mac : Mac) (at : ℕ) → AreBytes bytes → capture_form bytes ≡ Ok form → records ≡ drop 24 bytes
+pub imported : (bytes records middle text : List ℕ) (form : Form) (name : Name) (mac : Mac) (at : ℕ) → AreBytes bytes → capture_form bytes ≡ Ok form
+    → records ≡ drop 24 bytes
     → at ≡ first_moment (used_of mac (packets_in form records)) → middle ≡ lines_text (head_lines (spec_of name mac) at)
     → text ≡ middle ++ lines_text (turn_lines (used_of mac (packets_in form records))) → IsImported bytes (spec_of name mac) text
 imported bytes records middle text form name mac at octets formed cut first head turns =

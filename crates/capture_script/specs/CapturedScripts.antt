@@ -51,7 +51,8 @@ abbrev pub begin_at : ℕ → Begin
 begin_at at = record { at = at; salt = 0; up = 1 }
 
 abbrev pub captured_life : List Packet → LifeScript
-captured_life packets = record { begin = begin_at (first_moment packets); turns = map packet_given packets; crash = None }
+captured_life packets =
+    record { begin = begin_at (first_moment packets); turns = map packet_given packets; crash = None }
 
 -- the script of the packets that are used
 unfoldable pub captured_script : IfSpec → List Packet → ScriptLines
@@ -75,12 +76,14 @@ head_lines spec at = head_line ∷ interface_text spec ∷ start_text (begin_at 
 abbrev pub captured_lines : IfSpec → List Packet → List Line
 captured_lines spec packets = head_lines spec (first_moment packets) ++ turn_lines packets
 
--- the text is that of the script which the capture means, and spells it where the interface has a name and a hardware address
+-- the text is that of the script which the capture means, and spells it where the interface has a name and a hardware
+-- address
 pub record IsImported (bytes : List ℕ) (spec : IfSpec) (text : List ℕ) : Type 0 where
   pub form : Form
   pub formed : capture_form bytes ≡ Ok form
   pub text_is : text ≡ lines_text (captured_lines spec (used_of spec.mac (captured_in form bytes)))
-  pub spelled : FitsName spec.name → FitsMac spec.mac → IsSpelled SpellsScript text (captured_script spec (used_of spec.mac (captured_in form bytes)))
+  pub spelled : FitsName spec.name → FitsMac spec.mac
+      → IsSpelled SpellsScript text (captured_script spec (used_of spec.mac (captured_in form bytes)))
 
 -- why there is none; want of memory is free
 abbrev pub IsRefused : List ℕ → ImportAnswer → Type 0

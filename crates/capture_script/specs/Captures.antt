@@ -1,5 +1,5 @@
--- What a capture of packets says (draft-ietf-opsawg-pcap, sections 4 and 5): a header of 24 bytes, and records. The first four bytes
--- tell the order of each number's bytes, and what fractions of a second count.
+-- What a capture of packets says (draft-ietf-opsawg-pcap, sections 4 and 5): a header of 24 bytes, and records. The
+-- first four bytes tell the order of each number's bytes, and what fractions of a second count.
 use Rattle.std.specs.Prelude.{ℕ, zero, suc, ◌+◌, ◌*◌, ◌/◌, ◌%◌, Bool, ◌==◌, nat_le, nat_lt, if◌then◌else◌, List, [], ◌∷◌, length, take, drop, Option, Some, None, Result, Ok, Err, option_map}
 use Rattle.byteorder.specs.Endian.{big_number, little_number}
 use Rattle.capture_script.specs.declared.forms.TheConstants.{ETHERNET, HEADER_LEN, LINK_TYPE_AT, MICROSECONDS, NANOSECONDS}
@@ -27,7 +27,8 @@ fraction_of magic =
 
 -- the magic number stands in this order
 abbrev pub form_by : Order → List ℕ → Option Form
-form_by order bytes = option_map (λ fraction. record { order = order; fraction = fraction }) (fraction_of (number_at order 0 bytes))
+form_by order bytes =
+    option_map (λ fraction. record { order = order; fraction = fraction }) (fraction_of (number_at order 0 bytes))
 
 abbrev pub first_form : Option Form → Option Form → Option Form
 first_form (Some form) other = Some form
@@ -69,7 +70,8 @@ abbrev pub has_packet : Form → List ℕ → Bool
 has_packet form bytes = nat_le (RECORD_LEN + size_at form bytes) (length bytes)
 
 abbrev pub moment_at : Form → List ℕ → ℕ
-moment_at form bytes = number_at form.order 0 bytes * 1000 + number_at form.order 4 bytes / fractions_of_one form.fraction
+moment_at form bytes =
+    number_at form.order 0 bytes * 1000 + number_at form.order 4 bytes / fractions_of_one form.fraction
 
 abbrev pub packet_at : Form → List ℕ → Packet
 packet_at form bytes = record { at = moment_at form bytes; bytes = take (size_at form bytes) (drop RECORD_LEN bytes) }

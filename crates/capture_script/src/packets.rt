@@ -44,7 +44,8 @@ fn moment_at(form: Form, bytes: &[u8]) -> u64
 /// The first packet of records, and the records after it. A record that runs past the end is none.
 #[tactic(auto, using(crate::proofs::PacketSteps::too_short, crate::proofs::PacketSteps::cut_off, crate::proofs::PacketSteps::whole))]
 pub(crate) fn first_packet<'a>(form: Form, bytes: &'a [u8]) -> Option<(Packet<'a>, &'a [u8])>
-    ensures { MatchOption result (packets_in form bytes.now ≡ []) (λ x. packets_in form bytes.now ≡ packet_shown x.0 ∷ packets_in form x.1.now) }
+    ensures { MatchOption result (packets_in form bytes.now ≡ [])
+        (λ x. packets_in form bytes.now ≡ packet_shown x.0 ∷ packets_in form x.1.now) }
 {
     if bytes.len() < RECORD_LEN {
         return None;

@@ -80,7 +80,8 @@ fn append_head(spec: IfSpec, at: u64, into: &mut Vec<u8>) -> Result<(), NoMemory
 /// Appends the turn in which a packet comes in.
 #[tactic(auto, unfolding(script_model::specs::Lines::line_words), using(std::proofs::Common::append_assoc))]
 fn append_turn(packet: Packet<'_>, into: &mut Vec<u8>) -> Result<(), NoMemory>
-    ensures { OnOk result (into.new.items ≡ into.old.items ++ lines_text (turn_lines (packet_shown packet.entry ∷ []))) }
+    ensures { OnOk result
+        (into.new.items ≡ into.old.items ++ lines_text (turn_lines (packet_shown packet.entry ∷ []))) }
 {
     let event = Event::Frame {
         iface: INDEX,
@@ -99,7 +100,8 @@ fn append_turn(packet: Packet<'_>, into: &mut Vec<u8>) -> Result<(), NoMemory>
 
 /// Appends a turn for each packet that is used.
 fn append_turns(form: Form, own: Mac, records: &[u8], into: &mut Vec<u8>) -> Result<(), NoMemory>
-    ensures { OnOk result (into.new.items ≡ into.old.items ++ lines_text (turn_lines (used_of own (packets_in form records.now)))) }
+    ensures { OnOk result
+        (into.new.items ≡ into.old.items ++ lines_text (turn_lines (used_of own (packets_in form records.now)))) }
 {
     let mut rest = records;
     'packets: while let Some((packet, others)) = first_packet(form, rest) {
@@ -111,8 +113,9 @@ fn append_turns(form: Form, own: Mac, records: &[u8], into: &mut Vec<u8>) -> Res
     Ok(())
 }
 
-/// The text of the script that a capture means: an interface with this name and hardware address, which has carrier, and a turn for each
-/// packet that has room in a script and wasn't sent by it. Moments are as they were captured, so they may fall. Linear in the capture.
+/// The text of the script that a capture means: an interface with this name and hardware address, which has carrier,
+/// and a turn for each packet that has room in a script and wasn't sent by it. Moments are as they were captured, so
+/// they may fall. Linear in the capture.
 #[tactic(auto, using(crate::proofs::CapturedTexts::imported))]
 pub fn import(alloc: Global, bytes: &[u8], name: Name, mac: Mac) -> Result<Vec<u8>, ImportAnswer>
     ensures ok { IfOk result (λ text. IsImported bytes.now (spec_of name mac) text.items) }

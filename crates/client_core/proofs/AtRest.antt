@@ -45,7 +45,8 @@ not_earlier None second at none = (refl, none)
 not_earlier (Some first) None at none = (none, refl)
 not_earlier (Some first) (Some second) at none = (grind (arith, nat_tests, none), grind (arith, nat_tests, none))
 
-then_silent : (iface : Iface) (first : IfaceStep) (next : Iface → IfaceStep) → first ≡ silent iface → next iface ≡ silent iface → then_step first next ≡ silent iface
+then_silent : (iface : Iface) (first : IfaceStep) (next : Iface → IfaceStep) → first ≡ silent iface → next iface ≡ silent iface
+    → then_step first next ≡ silent iface
 then_silent iface first next one two =
     ap (λ (step : IfaceStep). then_step step next) one
     ∙ ap (λ (step : IfaceStep). record { iface = step.iface; said = step.said; reports = step.reports }) two
@@ -115,7 +116,8 @@ pub record IsIdle (turn : Turn) (iface : Iface) : Type 0 where
   pub rests : IsAtRest turn iface
   pub due : (machine : TimedMachine) → has_come (dues_of iface machine) turn.at ≡ false
 
-module _ (turn : Turn) (ifaces : List Iface) (kept after : Kept) (places : Places) (running : IsRunning ifaces kept) (takes : Takes turn places kept after) where
+module _ (turn : Turn) (ifaces : List Iface) (kept after : Kept) (places : Places) (running : IsRunning ifaces kept)
+    (takes : Takes turn places kept after) where
   pub is_near : (place : ℕ) → has places place ≡ false → place < 64
   is_near place out = by (cases_lt place 64)
     where
@@ -135,12 +137,15 @@ module _ (turn : Turn) (ifaces : List Iface) (kept after : Kept) (places : Place
     none_come machine =
         ap (λ (dues : MachineDues). has_come (dues machine) turn.at)
         (sym (get_or-take 64 (map dues_of ifaces) place never near ∙ map_at dues_of ifaces place d never lt))
-        ∙ untaken turn.at (map dues_of ifaces) kept.dues place running.due (unmet (is_taken turn.at kept.dues place) (has places place) (takes.due place near) out) machine
+        ∙ untaken turn.at (map dues_of ifaces) kept.dues place running.due
+        (unmet (is_taken turn.at kept.dues place) (has places place) (takes.due place near) out) machine
 
     not_due_now : is_due (iface_due iface) turn.at ≡ false
     not_due_now =
         later_both (earlier (machine_due machine.Dhcp4 iface) (machine_due machine.LinkLocal iface)) (machine_due machine.Dhcp6 iface) turn.at
-        (later_both (machine_due machine.Dhcp4 iface) (machine_due machine.LinkLocal iface) turn.at (come_due (machine_due machine.Dhcp4 iface) turn.at ∙ none_come machine.Dhcp4) (come_due (machine_due machine.LinkLocal iface) turn.at ∙ none_come machine.LinkLocal))
+        (later_both (machine_due machine.Dhcp4 iface) (machine_due machine.LinkLocal iface) turn.at
+        (come_due (machine_due machine.Dhcp4 iface) turn.at ∙ none_come machine.Dhcp4)
+        (come_due (machine_due machine.LinkLocal iface) turn.at ∙ none_come machine.LinkLocal))
         (come_due (machine_due machine.Dhcp6 iface) turn.at ∙ none_come machine.Dhcp6)
 
     -- nothing comes to it from outside

@@ -32,16 +32,19 @@ narrow : (width : ℕ) (rest : List ℕ) → has_route width rest ≡ true → w
 narrow width rest has = grind (arith)
 
 front_leads : (has : Bool) (width : ℕ) (rest : List ℕ) (others : Option (List ClasslessRoute)) → has_route width rest ≡ has
-    → IfSome others (AllByRecursion HasDestination) → IfSome (cond has (option_map (λ routes. route_of width rest ∷ routes) others) None) (AllByRecursion HasDestination)
+    → IfSome others (AllByRecursion HasDestination)
+    → IfSome (cond has (option_map (λ routes. route_of width rest ∷ routes) others) None) (AllByRecursion HasDestination)
 front_leads true width rest others is lead = more_lead (route_of width rest) others (network_fits _ (narrow width rest is)) lead
 front_leads false width rest others is lead = tt
 
 after_lead : (skip : ℕ) (value : List ℕ) → IfSome (routes_after skip value) (AllByRecursion HasDestination)
 after_lead skip [] = tt
 after_lead (suc k) (b ∷ rest) = after_lead k rest
-after_lead zero (width ∷ rest) = front_leads (has_route width rest) width rest (routes_after (sent_bytes width + 4) rest) refl (after_lead (sent_bytes width + 4) rest)
+after_lead zero (width ∷ rest) =
+    front_leads (has_route width rest) width rest (routes_after (sent_bytes width + 4) rest) refl (after_lead (sent_bytes width + 4) rest)
 
-some_lead : (some : Bool) (routes : Option (List ClasslessRoute)) → IfSome routes (AllByRecursion HasDestination) → IfSome (cond some routes None) (AllByRecursion HasDestination)
+some_lead : (some : Bool) (routes : Option (List ClasslessRoute)) → IfSome routes (AllByRecursion HasDestination)
+    → IfSome (cond some routes None) (AllByRecursion HasDestination)
 some_lead true routes lead = lead
 some_lead false routes lead = tt
 

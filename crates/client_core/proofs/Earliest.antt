@@ -74,16 +74,20 @@ earliest_apart (x ∷ xs) ys = ap (earlier (iface_due x)) (earliest_apart xs ys)
 
 iface_least : (d : ℕ) (iface : Iface) → ((machine : TimedMachine) → AtLeast d (dues_of iface machine)) → AtLeast d (iface_due iface)
 iface_least d iface all =
-    both_least d (earlier (machine_due Dhcp4 iface) (machine_due LinkLocal iface)) (machine_due Dhcp6 iface) (both_least d (machine_due Dhcp4 iface) (machine_due LinkLocal iface) (all Dhcp4) (all LinkLocal)) (all Dhcp6)
+    both_least d (earlier (machine_due Dhcp4 iface) (machine_due LinkLocal iface)) (machine_due Dhcp6 iface)
+    (both_least d (machine_due Dhcp4 iface) (machine_due LinkLocal iface) (all Dhcp4) (all LinkLocal)) (all Dhcp6)
 
 iface_reached : (d : ℕ) (iface : Iface) (machine : TimedMachine) → dues_of iface machine ≡ Some d
     → ((other : TimedMachine) → AtLeast d (dues_of iface other)) → iface_due iface ≡ Some d
 iface_reached d iface Dhcp4 is all =
-    first_least d (earlier (machine_due Dhcp4 iface) (machine_due LinkLocal iface)) (machine_due Dhcp6 iface) (first_least d (machine_due Dhcp4 iface) (machine_due LinkLocal iface) is (all LinkLocal)) (all Dhcp6)
+    first_least d (earlier (machine_due Dhcp4 iface) (machine_due LinkLocal iface)) (machine_due Dhcp6 iface)
+    (first_least d (machine_due Dhcp4 iface) (machine_due LinkLocal iface) is (all LinkLocal)) (all Dhcp6)
 iface_reached d iface LinkLocal is all =
-    first_least d (earlier (machine_due Dhcp4 iface) (machine_due LinkLocal iface)) (machine_due Dhcp6 iface) (second_least d (machine_due Dhcp4 iface) (machine_due LinkLocal iface) (all Dhcp4) is) (all Dhcp6)
+    first_least d (earlier (machine_due Dhcp4 iface) (machine_due LinkLocal iface)) (machine_due Dhcp6 iface)
+    (second_least d (machine_due Dhcp4 iface) (machine_due LinkLocal iface) (all Dhcp4) is) (all Dhcp6)
 iface_reached d iface Dhcp6 is all =
-    second_least d (earlier (machine_due Dhcp4 iface) (machine_due LinkLocal iface)) (machine_due Dhcp6 iface) (both_least d (machine_due Dhcp4 iface) (machine_due LinkLocal iface) (all Dhcp4) (all LinkLocal)) is
+    second_least d (earlier (machine_due Dhcp4 iface) (machine_due LinkLocal iface)) (machine_due Dhcp6 iface)
+    (both_least d (machine_due Dhcp4 iface) (machine_due LinkLocal iface) (all Dhcp4) (all LinkLocal)) is
 
 iface_never : (iface : Iface) → ((machine : TimedMachine) → dues_of iface machine ≡ None) → iface_due iface ≡ None
 iface_never iface none = λ i. earlier (earlier (none Dhcp4 i) (none LinkLocal i)) (none Dhcp6 i)
@@ -126,7 +130,9 @@ module _ (ifaces : List Iface) (moments : Moments) (are : AreMoments (map dues_o
       let key : ℕ = number_of place machine in
       sym (numbered_at place machine) ∙ ap (λ (m : Moments). finite.get m key) empty ∙ finite.get-empty nat_cmp key))
   queue_first (Some d) first =
-      sym (all_reached d (take 64 ifaces) (place_in first.key) (machine_in first.key) (sym (keyed first.key) ∙ first.set) (λ (place : ℕ) (machine : TimedMachine).
+      sym
+      (all_reached d (take 64 ifaces) (place_in first.key) (machine_in first.key) (sym (keyed first.key) ∙ first.set)
+      (λ (place : ℕ) (machine : TimedMachine).
       subst (AtLeast d) (numbered_at place machine) (first.least (number_of place machine))))
 
   others_are : (n : ℕ) → n ≡ min 64 (length ifaces) → take (length ifaces - n) (drop n ifaces) ≡ drop 64 ifaces

@@ -45,7 +45,8 @@ picked : (b : Bool) (iface one : Iface) (others : Option Iface) → FitsIface if
 picked true iface one others fits later found = subst (λ (some : Option Iface). IfSome some FitsIface) (sym found) fits
 picked false iface one others fits later found = later found
 
-pub found_fits : (index : ℕ) (ifaces : List Iface) (one : Iface) → AreIfaces ifaces → Some one ≡ find (λ iface. nat_eq (index_of iface) index) ifaces → FitsIface one
+pub found_fits : (index : ℕ) (ifaces : List Iface) (one : Iface) → AreIfaces ifaces → Some one ≡ find (λ iface. nat_eq (index_of iface) index) ifaces
+    → FitsIface one
 found_fits index [] one fit found = absurd cc
 found_fits index (iface ∷ ifaces) one fit found =
     picked (nat_eq (index_of iface) index) iface one (find (λ other. nat_eq (index_of other) index) ifaces) fit.0 (found_fits index ifaces one fit.1) found

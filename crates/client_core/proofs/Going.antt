@@ -24,7 +24,8 @@ turned_fit own turn [] fit = tt
 turned_fit own turn (iface ∷ ifaces) fit = (stays_fit iface (turned own turn iface) (turn_stays own turn iface) fit.0, turned_fit own turn ifaces fit.1)
 
 -- some after their turn, and the others before it
-pub part_fits : (own : List Mac) (turn : Turn) (ifaces : List Iface) (i : ℕ) → AreIfaces ifaces → AreIfaces (map (turned own turn) (take i ifaces) ++ drop i ifaces)
+pub part_fits : (own : List Mac) (turn : Turn) (ifaces : List Iface) (i : ℕ) → AreIfaces ifaces
+    → AreIfaces (map (turned own turn) (take i ifaces) ++ drop i ifaces)
 part_fits own turn [] zero fit = tt
 part_fits own turn [] (suc i) fit = tt
 part_fits own turn (iface ∷ ifaces) zero fit = fit

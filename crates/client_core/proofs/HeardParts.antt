@@ -40,7 +40,8 @@ through a b c x y z p q r one other = by_case (eqb a x) refl one (eqb p x) refl 
     apart : eqb a p ≡ false → ltb a p ≡ true → before a b c p q r ≡ true
     apart unlike less = ap (λ (s : Bool). cond s (before2 b c q r) (ltb a p)) unlike ∙ less
 
-    by_case : (same : Bool) → eqb a x ≡ same → cond same (before2 b c y z) (ltb a x) ≡ true → (also : Bool) → eqb p x ≡ also → cond also (before2 q r y z) (ltb p x) ≡ false → before a b c p q r ≡ true
+    by_case : (same : Bool) → eqb a x ≡ same → cond same (before2 b c y z) (ltb a x) ≡ true → (also : Bool) → eqb p x ≡ also
+        → cond also (before2 q r y z) (ltb p x) ≡ false → before a b c p q r ≡ true
     by_case true e first true f last =
         let here : eqb a p ≡ true = grind (arith, e, f) in
         ap (λ (s : Bool). cond s (before2 b c q r) (ltb a p)) here ∙ through2 b c y z q r first last
@@ -50,7 +51,8 @@ through a b c x y z p q r one other = by_case (eqb a x) refl one (eqb p x) refl 
 
 before_all : (part first other : PartContent) → is_before part first ≡ true → is_before other first ≡ false → is_before part other ≡ true
 before_all part first other e f =
-    through part.metric part.index.number (family_rank part.family) first.metric first.index.number (family_rank first.family) other.metric other.index.number (family_rank other.family) e f
+    through part.metric part.index.number (family_rank part.family) first.metric first.index.number (family_rank first.family) other.metric other.index.number
+    (family_rank other.family) e f
 
 -- ---- a part among ordered ones
 
@@ -62,7 +64,8 @@ placed_first : (part first : PartContent) (others : List PartContent) → is_bef
     → placed part (filter tells others) ≡ part ∷ filter tells others
 placed_first part first [] e later = refl
 placed_first part first (other ∷ others) e later =
-    by_case (tells other) (before_all part first other e (later 0 other (omega arith))) (placed_first part first others e (λ k d lt. later (suc k) d (omega arith)))
+    by_case (tells other) (before_all part first other e (later 0 other (omega arith)))
+    (placed_first part first others e (λ k d lt. later (suc k) d (omega arith)))
   where
     by_case : (b : Bool) → is_before part other ≡ true → placed part (filter tells others) ≡ part ∷ filter tells others
         → placed part (cond b (other ∷ filter tells others) (filter tells others)) ≡ part ∷ cond b (other ∷ filter tells others) (filter tells others)
@@ -76,7 +79,8 @@ placed_if b part parts = cond b (placed part parts) parts
 abbrev InOrder : List PartContent → Type 0
 InOrder ordered = AllPairs (λ one other. is_before other one ≡ false) ordered
 
-filter_placed : (part : PartContent) (ordered : List PartContent) → InOrder ordered → filter tells (placed part ordered) ≡ placed_if (tells part) part (filter tells ordered)
+filter_placed : (part : PartContent) (ordered : List PartContent) → InOrder ordered
+    → filter tells (placed part ordered) ≡ placed_if (tells part) part (filter tells ordered)
 filter_placed part [] sorted = by_case (tells part)
   where
     by_case : (b : Bool) → cond b (part ∷ []) [] ≡ placed_if b part []
@@ -97,7 +101,8 @@ filter_placed part (first ∷ others) sorted =
     before_it e true false = sym (placed_first part first others e later)
 
     behind_it : is_before part first ≡ false → (t u : Bool) → filter tells (placed part others) ≡ placed_if t part (filter tells others)
-        → cond u (first ∷ filter tells (placed part others)) (filter tells (placed part others)) ≡ placed_if t part (cond u (first ∷ filter tells others) (filter tells others))
+        → cond u (first ∷ filter tells (placed part others)) (filter tells (placed part others))
+        ≡ placed_if t part (cond u (first ∷ filter tells others) (filter tells others))
     behind_it e t false rest = rest
     behind_it e false true rest = ap (λ (ps : List PartContent). first ∷ ps) rest
     behind_it e true true rest =

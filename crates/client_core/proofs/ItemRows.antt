@@ -14,13 +14,15 @@ use Rattle.client_model.specs.WantedRows.{ia_rows}
 use Rattle.client_core.proofs.InPlace.{each_of}
 
 -- each of them fits
-pub ia_fits : (ias : List IaLease) (i : ℕ) (ia : IaLease) → i < length ias → AllByRecursion FitsIa (ias_content ias) → ia ≡ get_or ias i ia → FitsIa (ia_content ia)
+pub ia_fits : (ias : List IaLease) (i : ℕ) (ia : IaLease) → i < length ias → AllByRecursion FitsIa (ias_content ias) → ia ≡ get_or ias i ia
+    → FitsIa (ia_content ia)
 ia_fits ias i ia lt all is =
     subst FitsIa (get_or-map ia_content ias i ia ∙ ap ia_content (sym is))
     (each_of FitsIa (ias_content ias) i (ia_content ia) (subst (λ (n : ℕ). i < n) (sym (length-map ias ia_content)) lt) all)
 
 -- one more of them
-pub ias_more : (outlet : Outlet) (shares : List ShareConf) (before rows more : List HostRow) (ias : List IaLease) (i : ℕ) (ia : IaLease) → i < length ias → ia ≡ get_or ias i ia
+pub ias_more : (outlet : Outlet) (shares : List ShareConf) (before rows more : List HostRow) (ias : List IaLease) (i : ℕ) (ia : IaLease) → i < length ias
+    → ia ≡ get_or ias i ia
     → rows ≡ before ++ flat_map (ia_rows outlet shares) (ias_content (take i ias)) → more ≡ rows ++ ia_rows outlet shares (ia_content ia)
     → more ≡ before ++ flat_map (ia_rows outlet shares) (ias_content (take (i + 1) ias))
 ias_more outlet shares before rows more ias i ia lt is so_far grows =

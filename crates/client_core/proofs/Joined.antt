@@ -30,14 +30,16 @@ nothing = record { sends = []; news = []; told = [] }
 news_apart : (steps : List IfaceStep) → map (λ (report : Report). report.news) (flat_map (λ (step : IfaceStep). step.reports) steps) ≡ flat_map news_of steps
 news_apart [] = refl
 news_apart (step ∷ steps) =
-    map-append (λ (report : Report). report.news) step.reports (flat_map (λ (s : IfaceStep). s.reports) steps) ∙ ap (λ more. news_of step ++ more) (news_apart steps)
+    map-append (λ (report : Report). report.news) step.reports (flat_map (λ (s : IfaceStep). s.reports) steps)
+    ∙ ap (λ more. news_of step ++ more) (news_apart steps)
 
 pub joined_steps : {X : Type 0} (step : X → IfaceStep) (xs : List X) (own : List Mac) (old ifaces : List Iface) (before after : Asked)
     → before ≡ nothing → GoAll step xs ifaces before after → Steps (joined own old (map step xs)) (record { own = own; ifaces = ifaces }) after
 joined_steps step xs own old ifaces before after none all = record {
   goes_on = ap (λ (is : List Iface). record { own = own; ifaces = is }) (all.go_on ∙ sym (map-map (λ (s : IfaceStep). s.iface) step xs));
   offers = all.offer ∙ ap (λ (a : Asked). a.sends ++ flat_map (λ x. sends_of (step x)) xs) none ∙ sym (flat_map-map sends_of step xs);
-  tells = all.tell ∙ ap (λ (a : Asked). a.news ++ flat_map (λ x. news_of (step x)) xs) none ∙ sym (flat_map-map news_of step xs) ∙ sym (news_apart (map step xs));
+  tells =
+      all.tell ∙ ap (λ (a : Asked). a.news ++ flat_map (λ x. news_of (step x)) xs) none ∙ sym (flat_map-map news_of step xs) ∙ sym (news_apart (map step xs));
 }
 
 pub joined_on : {X : Type 0} (step : X → IfaceStep) (xs : List X) (ifaces : List Iface) (before after : Asked)

@@ -15,7 +15,8 @@ first_found : (b : Bool) (value : Value) (others : List Value) (code : ℕ)
 first_found true value others code more = refl
 first_found false value others code more = more
 
-pub value_found : (code : ℕ) (values : List Value) → value_in code (values_content values) ≡ option_map (λ found. found.bytes.items) (find (λ kept. kept.code == code) values)
+pub value_found : (code : ℕ) (values : List Value)
+    → value_in code (values_content values) ≡ option_map (λ found. found.bytes.items) (find (λ kept. kept.code == code) values)
 value_found code [] = refl
 value_found code (value ∷ others) = first_found (value.code == code) value others code (value_found code others)
 

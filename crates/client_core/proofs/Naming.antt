@@ -59,7 +59,9 @@ one_more indices last place index = by (cases_eq place (length indices))
         ∙ ap (λ (b : Bool). (nat_eq index last && true) || b) (ap (λ (at : ℕ). is_named indices at index) same ∙ not_yet indices index))
     by (inr apart) =
         others indices last place index apart ∙ there (nat_eq index last) (is_named indices place index)
-        ∙ sym (ap (λ (b : Bool). (nat_eq index last && b) || is_named indices place index) (off (nat_eq place (length indices)) (λ e. apart (eqb-true place (length indices) e))))
+        ∙ sym
+        (ap (λ (b : Bool). (nat_eq index last && b) || is_named indices place index)
+        (off (nat_eq place (length indices)) (λ e. apart (eqb-true place (length indices) e))))
 
 pub named_more : (indices : List ℕ) (last place : ℕ) (old new : Named) → place ≡ length indices
     → ((index at : ℕ) → has (named_as new index) at ≡ ((nat_eq index last && nat_eq at place) || has (named_as old index) at))

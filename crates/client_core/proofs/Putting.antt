@@ -52,7 +52,9 @@ and_false false = refl
 
 pub puts_none : (place : ℕ) (dues : MachineDues) (old : Moments) → PutsBelow place 0 dues old old
 puts_none place dues old key =
-    sym (ap (λ (b : Bool). cond (nat_eq (place_in key) place && b) (dues (machine_in key)) (finite.get old key)) (le-ltb (rank_of (machine_in key)) 0 (omega arith))
+    sym
+    (ap (λ (b : Bool). cond (nat_eq (place_in key) place && b) (dues (machine_in key)) (finite.get old key))
+    (le-ltb (rank_of (machine_in key)) 0 (omega arith))
     ∙ ap (λ (b : Bool). cond b (dues (machine_in key)) (finite.get old key)) (and_false (nat_eq (place_in key) place)))
 
 module _ (place rank : ℕ) (machine : TimedMachine) (dues : MachineDues) (old before now : Moments) (is : rank_of machine ≡ rank)
@@ -60,7 +62,8 @@ module _ (place rank : ℕ) (machine : TimedMachine) (dues : MachineDues) (old b
   abbrev chosen : (here under : Bool) → (key : ℕ) → Option ℕ
   chosen here under key = cond (here && under) (dues (machine_in key)) (finite.get old key)
 
-  this : (key : ℕ) → key ≡ number_of place machine → finite.get now key ≡ chosen (nat_eq (place_in key) place) (nat_lt (rank_of (machine_in key)) (rank + 1)) key
+  this : (key : ℕ) → key ≡ number_of place machine
+      → finite.get now key ≡ chosen (nat_eq (place_in key) place) (nat_lt (rank_of (machine_in key)) (rank + 1)) key
   this key same =
       let who : machine_in key ≡ machine = ap machine_in same ∙ ranked place machine in
       let where_it_is : place_in key ≡ place = ap place_in same ∙ placed place machine in
@@ -71,7 +74,8 @@ module _ (place rank : ℕ) (machine : TimedMachine) (dues : MachineDues) (old b
       ∙ ap dues who)
 
   apart_here : (key : ℕ) → (key ≡ number_of place machine → ⊥) → (place_in key ≡ place) ⊎ (place_in key ≡ place → ⊥)
-      → chosen (nat_eq (place_in key) place) (nat_lt (rank_of (machine_in key)) rank) key ≡ chosen (nat_eq (place_in key) place) (nat_lt (rank_of (machine_in key)) (rank + 1)) key
+      → chosen (nat_eq (place_in key) place) (nat_lt (rank_of (machine_in key)) rank) key
+      ≡ chosen (nat_eq (place_in key) place) (nat_lt (rank_of (machine_in key)) (rank + 1)) key
   apart_here key apart (inl same) =
       ap (λ (b : Bool). chosen (nat_eq (place_in key) place) b key)
       (sym (further rank (rank_of (machine_in key))
@@ -88,14 +92,18 @@ module _ (place rank : ℕ) (machine : TimedMachine) (dues : MachineDues) (old b
           → finite.get now key ≡ chosen (nat_eq (place_in key) place) (nat_lt (rank_of (machine_in key)) (rank + 1)) key
       by (inl same) = this key same
       by (inr apart) =
-          one key ∙ ap (λ (b : Bool). cond b (dues machine) (finite.get before key)) (off (nat_eq key (number_of place machine)) (λ e. apart (eqb-true key (number_of place machine) e)))
+          one key
+          ∙ ap (λ (b : Bool). cond b (dues machine) (finite.get before key))
+          (off (nat_eq key (number_of place machine)) (λ e. apart (eqb-true key (number_of place machine) e)))
           ∙ below key ∙ apart_here key apart (cases_eq (place_in key) place)
 
 -- of all machines
-pub puts_all : (place rank : ℕ) (dues : MachineDues) (old new : Moments) → place < 64 → 3 ≤ rank → PutsBelow place rank dues old new → PutsMoments place dues old new
+pub puts_all : (place rank : ℕ) (dues : MachineDues) (old new : Moments) → place < 64 → 3 ≤ rank → PutsBelow place rank dues old new
+    → PutsMoments place dues old new
 puts_all place rank dues old new near all below key =
     below key
-    ∙ ap (λ (b : Bool). cond (nat_eq (place_in key) place && b) (dues (machine_in key)) (finite.get old key)) (lt-ltb (rank_of (machine_in key)) rank (omega (arith, all, rank_below (machine_in key))))
+    ∙ ap (λ (b : Bool). cond (nat_eq (place_in key) place && b) (dues (machine_in key)) (finite.get old key))
+    (lt-ltb (rank_of (machine_in key)) rank (omega (arith, all, rank_below (machine_in key))))
     ∙ ap (λ (b : Bool). cond b (dues (machine_in key)) (finite.get old key)) (turned (nat_eq (place_in key) place))
     ∙ sym (ap (λ (b : Bool). cond (b && nat_eq (place_in key) place) (dues (machine_in key)) (finite.get old key)) (lt-ltb place 64 near))
   where

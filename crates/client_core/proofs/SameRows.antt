@@ -14,7 +14,8 @@ use Rattle.client_core.proofs.ToldLaws.{told_stays}
 
 none_more : {X : Type 0} (before more : List X) → length (before ++ more) ≤ length before → more ≡ []
 none_more before [] few = refl
-none_more before (x ∷ more) few = let sum : length (before ++ x ∷ more) ≡ length before + length (x ∷ more) = length-append before (x ∷ more) in absurd (omega arith)
+none_more before (x ∷ more) few =
+    let sum : length (before ++ x ∷ more) ≡ length before + length (x ∷ more) = length-append before (x ∷ more) in absurd (omega arith)
 
 -- no lease is kept any more, or a lease that is kept is the one of before
 all_kept : {X : Type 0} (old new : Option X) → (is_some old && not (is_some new)) ≡ false → (is_some new ≡ true → new ≡ old) → new ≡ old

@@ -46,7 +46,8 @@ has_more old new place near is other = by (cases_eq other place)
     by : (other ≡ place) ⊎ (other ≡ place → ⊥) → has new other ≡ (nat_eq other place || has old other)
     by (inl same) =
         ap (λ (b : Bool). nat_le 64 other || b)
-        (eq-eqb (bit_at new.bits other) 1 (ap (λ (bits : ℕ). bit_at bits other) is ∙ ap (bit_at (bit_or old.bits (1 * 2 ^ place % 2 ^ 64))) same ∙ bit_at_set_same w64 old.bits place near))
+        (eq-eqb (bit_at new.bits other) 1
+        (ap (λ (bits : ℕ). bit_at bits other) is ∙ ap (bit_at (bit_or old.bits (1 * 2 ^ place % 2 ^ 64))) same ∙ bit_at_set_same w64 old.bits place near))
         ∙ or_true (nat_le 64 other) ∙ sym (ap (λ (b : Bool). b || has old other) (eq-eqb other place same))
     by (inr apart) =
         ap (λ (bit : ℕ). nat_le 64 other || nat_eq bit 1) (ap (λ (bits : ℕ). bit_at bits other) is ∙ bit_at_set_other w64 old.bits place near other apart)

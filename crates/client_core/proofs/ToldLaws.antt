@@ -36,7 +36,8 @@ padded managed (part ∷ []) = with_family managed part part.family
 padded managed (part ∷ other ∷ more) = part ∷ other ∷ []
 
 padded_from : (managed : Managed) (b : Bool) (held : Option LeaseContent) (lease : Option Lease6Content)
-    → cond b (part4_with managed held) (nothing_told managed V4) ∷ told6 managed lease ∷ [] ≡ padded managed (cond b (part4_with managed held ∷ []) [] ++ parts6 managed lease)
+    → cond b (part4_with managed held) (nothing_told managed V4) ∷ told6 managed lease ∷ []
+    ≡ padded managed (cond b (part4_with managed held ∷ []) [] ++ parts6 managed lease)
 padded_from managed true held None = refl
 padded_from managed true held (Some lease) = refl
 padded_from managed false held None = refl
@@ -49,7 +50,8 @@ pub told_stays : (old new : Iface) → new.managed ≡ old.managed → iface_par
 told_stays old new same parts = told_padded new ∙ (λ i. padded (same i) (parts i)) ∙ sym (told_padded old)
 
 heard_from : (managed : Managed) (b : Bool) (held : Option LeaseContent) (lease : Option Lease6Content)
-    → filter tells (cond b (part4_with managed held) (nothing_told managed V4) ∷ told6 managed lease ∷ []) ≡ filter tells (cond b (part4_with managed held ∷ []) [] ++ parts6 managed lease)
+    → filter tells (cond b (part4_with managed held) (nothing_told managed V4) ∷ told6 managed lease ∷ [])
+    ≡ filter tells (cond b (part4_with managed held ∷ []) [] ++ parts6 managed lease)
 heard_from managed true held None = refl
 heard_from managed true held (Some lease) = refl
 heard_from managed false held None = refl
@@ -61,7 +63,8 @@ heard_all : (ifaces : List Iface) → filter tells (all_told ifaces) ≡ filter 
 heard_all [] = refl
 heard_all (iface ∷ ifaces) =
     filter-append tells (told_parts iface) (all_told ifaces)
-    ∙ ap (λ (parts : List PartContent). parts ++ filter tells (all_told ifaces)) (heard_from iface.managed (has_part4 iface) (held_of iface.dhcp4) (dhcp6.held_of iface.dhcp6))
+    ∙ ap (λ (parts : List PartContent). parts ++ filter tells (all_told ifaces))
+    (heard_from iface.managed (has_part4 iface) (held_of iface.dhcp4) (dhcp6.held_of iface.dhcp6))
     ∙ ap (λ (parts : List PartContent). filter tells (iface_parts iface) ++ parts) (heard_all ifaces)
     ∙ sym (filter-append tells (iface_parts iface) (resolver_parts ifaces))
 
@@ -79,17 +82,20 @@ wanted_stays old new same = sym (text_told new) ∙ ap (λ (parts : List PartCon
 abbrev six_of : Iface → PartContent
 six_of iface = told6 iface.managed (dhcp6.held_of iface.dhcp6)
 
-pub two_a_place : (ifaces : List Iface) (parts : List Part) (place : ℕ) → parts_content parts ≡ all_told ifaces → place < length ifaces → 2 * place + 1 < length parts
+pub two_a_place : (ifaces : List Iface) (parts : List Part) (place : ℕ) → parts_content parts ≡ all_told ifaces → place < length ifaces
+    → 2 * place + 1 < length parts
 two_a_place ifaces parts place tells lt =
     let long : length (parts_content parts) ≡ 2 * length ifaces = ap length tells ∙ length_two told4 six_of ifaces in
     let same : length (parts_content parts) ≡ length parts = length-map parts part_content in
     omega arith
 
-pub told_more : (ifaces : List Iface) (parts : List PartContent) (place : ℕ) (new : Iface) → parts ≡ all_told ifaces → told_with place new parts ≡ all_told (set ifaces place new)
+pub told_more : (ifaces : List Iface) (parts : List PartContent) (place : ℕ) (new : Iface) → parts ≡ all_told ifaces
+    → told_with place new parts ≡ all_told (set ifaces place new)
 told_more ifaces parts place new tells =
     ap (told_with place new) tells ∙ put_two told4 six_of ifaces place new
 
-pub told_same : (ifaces : List Iface) (parts : List PartContent) (place : ℕ) (new d : Iface) → parts ≡ all_told ifaces → told_parts new ≡ told_parts (get_or ifaces place d)
+pub told_same : (ifaces : List Iface) (parts : List PartContent) (place : ℕ) (new d : Iface) → parts ≡ all_told ifaces
+    → told_parts new ≡ told_parts (get_or ifaces place d)
     → told_with place new parts ≡ parts
 told_same ifaces parts place new d tells same =
     told_more ifaces parts place new tells ∙ same_two told4 six_of ifaces place new d same ∙ sym tells
@@ -97,12 +103,14 @@ told_same ifaces parts place new d tells same =
 -- ---- whether something else is told
 
 -- one in its place
-compares_one : {P : Type 0} (r : Resolver) (parts : List P) (j : ℕ) (new d : P) → j < length parts → Compares r (get_or parts j d) new → Compares r parts (set parts j new)
+compares_one : {P : Type 0} (r : Resolver) (parts : List P) (j : ℕ) (new d : P) → j < length parts → Compares r (get_or parts j d) new
+    → Compares r parts (set parts j new)
 compares_one Same parts j new d lt here = ap (set parts j) here ∙ set-get_or parts j d
 compares_one Other parts j new d lt here = λ same. here (sym (get_or-set_same parts j new d lt) ∙ ap (λ (ps : List _). get_or ps j d) same)
 
 -- two in their places
-pub compares_two : {P : Type 0} (first last : Resolver) (parts : List P) (j : ℕ) (four six d e : P) → suc j < length parts → Compares first (get_or parts j d) four
+pub compares_two : {P : Type 0} (first last : Resolver) (parts : List P) (j : ℕ) (four six d e : P) → suc j < length parts
+    → Compares first (get_or parts j d) four
     → Compares last (get_or (set parts j four) (suc j) e) six → Compares (either first last) parts (set (set parts j four) (suc j) six)
 compares_two Same last parts j four six d e lt here there =
     let kept : set parts j four ≡ parts = ap (set parts j) here ∙ set-get_or parts j d in
@@ -122,9 +130,11 @@ parts_put parts j k one other four six first last =
     ∙ (λ i. set (map-set part_content parts j one i) k (last i))
     ∙ ap (λ (x : PartContent). set (set (parts_content parts) j x) k six) first
 
-pub compares_put : (first last whole : Resolver) (parts : List Part) (j : ℕ) (one other d e : Part) (four six : PartContent) → j + 1 < length parts → whole ≡ either first last
+pub compares_put : (first last whole : Resolver) (parts : List Part) (j : ℕ) (one other d e : Part) (four six : PartContent) → j + 1 < length parts
+    → whole ≡ either first last
     → part_content one ≡ four → part_content other ≡ six → Compares first (part_content (get_or parts j d)) four
-    → Compares last (part_content (get_or (set parts j one) (j + 1) e)) six → Compares whole (parts_content parts) (parts_content (set (set parts j one) (j + 1) other))
+    → Compares last (part_content (get_or (set parts j one) (j + 1) e)) six
+    → Compares whole (parts_content parts) (parts_content (set (set parts j one) (j + 1) other))
 compares_put first last whole parts j one other d e four six lt is at_first at_last here there =
     let contents : List PartContent = parts_content parts in
     let long : length contents ≡ length parts = length-map parts part_content in
@@ -143,11 +153,14 @@ compares_put first last whole parts j one other d e four six lt is at_first at_l
 
 -- ---- a further place
 
-pub compares_more : {X : Type 0} (so_far more : Resolver) (first amid last : X) → Compares so_far first amid → Compares more amid last → (last ≡ first → amid ≡ first)
+pub compares_more : {X : Type 0} (so_far more : Resolver) (first amid last : X) → Compares so_far first amid → Compares more amid last
+    → (last ≡ first → amid ≡ first)
     → Compares (either so_far more) first last
 compares_more Same more first amid last same next back = subst (λ (x : _). Compares more x last) same next
 compares_more Other more first amid last apart next back = λ same. apart (back same)
 
-pub told_before : (go : Iface → Iface) (ifaces : List Iface) (place : ℕ) → all_told (map go (take (place + 1) ifaces) ++ drop (place + 1) ifaces) ≡ all_told ifaces
+pub told_before : (go : Iface → Iface) (ifaces : List Iface) (place : ℕ)
+    → all_told (map go (take (place + 1) ifaces) ++ drop (place + 1) ifaces) ≡ all_told ifaces
     → all_told (map go (take place ifaces) ++ drop place ifaces) ≡ all_told ifaces
-told_before go ifaces place same = same_before told4 six_of go ifaces place (subst (λ (k : ℕ). all_told (map go (take k ifaces) ++ drop k ifaces) ≡ all_told ifaces) (add-one place) same)
+told_before go ifaces place same =
+    same_before told4 six_of go ifaces place (subst (λ (k : ℕ). all_told (map go (take k ifaces) ++ drop k ifaces) ≡ all_told ifaces) (add-one place) same)

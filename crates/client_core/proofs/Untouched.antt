@@ -124,7 +124,8 @@ module _ {X : Type 0} (of : Iface → Option X) (kept : ℕ → List Iface → O
 -- ---- all that a turn leaves as it was
 
 pub untouched_all : (go : Iface → Iface) → ((one : Iface) → (go one).managed ≡ one.managed) → (touched : Touched) (all : List Iface)
-    → AllByRecursion (Keeps go touched.ifaces.items) all → Compares touched.resolver (all_told all) (all_told (map go all)) → KeepsUntouched touched all (map go all)
+    → AllByRecursion (Keeps go touched.ifaces.items) all → Compares touched.resolver (all_told all) (all_told (map go all))
+    → KeepsUntouched touched all (map go all)
 untouched_all go same touched all keep tells = record {
   kept4 = kept_all (λ one. one.dhcp4.kept) kept_lease (λ index. refl) (λ index one others. refl) go same touched.ifaces.items all
       (all_map (Keeps go touched.ifaces.items) (λ one. is_touched (index_of one) touched.ifaces.items ≡ false → (go one).dhcp4.kept ≡ one.dhcp4.kept)

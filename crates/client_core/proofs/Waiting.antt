@@ -44,7 +44,9 @@ set_apart : (dues : List MachineDues) (place other : ℕ) (new : MachineDues) (m
 set_apart dues place other new machine apart = within (cases_lt other 64)
   where
     within : (other < 64) ⊎ (64 ≤ other) → at_place (set dues place new) other machine ≡ at_place dues other machine
-    within (inl lt) = ap (λ (d : MachineDues). d machine) (get_or-take 64 (set dues place new) other never lt ∙ get_or-set_other dues place other new never apart ∙ sym (get_or-take 64 dues other never lt))
+    within (inl lt) =
+        ap (λ (d : MachineDues). d machine)
+        (get_or-take 64 (set dues place new) other never lt ∙ get_or-set_other dues place other new never apart ∙ sym (get_or-take 64 dues other never lt))
     within (inr ge) = ap (λ (d : MachineDues). d machine) (past_front (set dues place new) 64 other never ge ∙ sym (past_front dues 64 other never ge))
 
 set_here : (dues : List MachineDues) (place : ℕ) (new : MachineDues) (machine : TimedMachine) → place < length dues → place < 64
@@ -80,7 +82,8 @@ waits_last at place dues moments past waits key = waits key ∙ by (cases_lt (pl
     by : ((place_in key) < place) ⊎ (place ≤ (place_in key)) → waiting (nat_lt (place_in key) place) at (key_due dues key) ≡ key_due dues key
     by (inl lt) = ap (λ (done : Bool). waiting done at (key_due dues key)) (lt-ltb (place_in key) place lt)
     by (inr ge) =
-        let none : key_due dues key ≡ None = ap (λ (d : MachineDues). d (machine_in key)) (past_end dues 64 (place_in key) never (omega arith)) ∙ never_due (machine_in key) in
+        let none : key_due dues key ≡ None =
+        ap (λ (d : MachineDues). d (machine_in key)) (past_end dues 64 (place_in key) never (omega arith)) ∙ never_due (machine_in key) in
         ap (waiting (nat_lt (place_in key) place) at) none ∙ waiting_none (nat_lt (place_in key) place) at ∙ sym none
 
 pub further : (place other : ℕ) → (other ≡ place → ⊥) → nat_lt other (place + 1) ≡ nat_lt other place
@@ -99,7 +102,8 @@ pub waits_skip : (at place : ℕ) (dues : List MachineDues) (moments : Moments)
     → ((machine : TimedMachine) → has_come (at_place dues place machine) at ≡ false) → Waits place at dues moments → Waits (place + 1) at dues moments
 waits_skip at place dues moments none waits key = waits key ∙ by (cases_eq (place_in key) place)
   where
-    by : ((place_in key) ≡ place) ⊎ ((place_in key) ≡ place → ⊥) → waiting (nat_lt (place_in key) place) at (key_due dues key) ≡ waiting (nat_lt (place_in key) (place + 1)) at (key_due dues key)
+    by : ((place_in key) ≡ place) ⊎ ((place_in key) ≡ place → ⊥)
+        → waiting (nat_lt (place_in key) place) at (key_due dues key) ≡ waiting (nat_lt (place_in key) (place + 1)) at (key_due dues key)
     by (inl same) =
         let no : has_come (key_due dues key) at ≡ false = ap (λ (i : ℕ). has_come (at_place dues i (machine_in key)) at) same ∙ none (machine_in key) in
         not_come (nat_lt (place_in key) place) at (key_due dues key) no ∙ sym (not_come (nat_lt (place_in key) (place + 1)) at (key_due dues key) no)
@@ -112,25 +116,30 @@ pub waits_put : (at place : ℕ) (dues : List MachineDues) (new : MachineDues) (
 waits_put at place dues new before now lt put waits key = put key ∙ by (cases_eq (place_in key) place)
   where
     here : (place < 64) ⊎ (64 ≤ place) → (place_in key) ≡ place
-        → cond (nat_lt place 64 && nat_eq (place_in key) place) (new (machine_in key)) (finite.get before key) ≡ waiting (nat_lt (place_in key) (place + 1)) at (key_due (set dues place new) key)
+        → cond (nat_lt place 64 && nat_eq (place_in key) place) (new (machine_in key)) (finite.get before key)
+        ≡ waiting (nat_lt (place_in key) (place + 1)) at (key_due (set dues place new) key)
     here (inl near) same =
         ap (λ (b : Bool). cond (b && nat_eq (place_in key) place) (new (machine_in key)) (finite.get before key)) (lt-ltb place 64 near)
         ∙ ap (λ (b : Bool). cond b (new (machine_in key)) (finite.get before key)) (eq-eqb (place_in key) place same)
         ∙ sym (ap (λ (done : Bool). waiting done at (key_due (set dues place new) key)) (lt-ltb (place_in key) (place + 1) (omega arith))
         ∙ ap (λ (i : ℕ). at_place (set dues place new) i (machine_in key)) same ∙ set_here dues place new (machine_in key) lt near)
     here (inr far) same =
-        let old : key_due dues key ≡ None = ap (λ (d : MachineDues). d (machine_in key)) (past_front dues 64 (place_in key) never (omega arith)) ∙ never_due (machine_in key) in
-        let none : key_due (set dues place new) key ≡ None = ap (λ (d : MachineDues). d (machine_in key)) (past_front (set dues place new) 64 (place_in key) never (omega arith)) ∙ never_due (machine_in key) in
+        let old : key_due dues key ≡ None =
+        ap (λ (d : MachineDues). d (machine_in key)) (past_front dues 64 (place_in key) never (omega arith)) ∙ never_due (machine_in key) in
+        let none : key_due (set dues place new) key ≡ None =
+        ap (λ (d : MachineDues). d (machine_in key)) (past_front (set dues place new) 64 (place_in key) never (omega arith)) ∙ never_due (machine_in key) in
         ap (λ (b : Bool). cond (b && nat_eq (place_in key) place) (new (machine_in key)) (finite.get before key)) (le-ltb place 64 far)
         ∙ waits key ∙ ap (waiting (nat_lt (place_in key) place) at) old ∙ waiting_none (nat_lt (place_in key) place) at
         ∙ sym (ap (waiting (nat_lt (place_in key) (place + 1)) at) none ∙ waiting_none (nat_lt (place_in key) (place + 1)) at)
 
-    other : (b : Bool) → nat_eq (place_in key) place ≡ false → cond (b && nat_eq (place_in key) place) (new (machine_in key)) (finite.get before key) ≡ finite.get before key
+    other : (b : Bool) → nat_eq (place_in key) place ≡ false
+        → cond (b && nat_eq (place_in key) place) (new (machine_in key)) (finite.get before key) ≡ finite.get before key
     other true off = ap (λ (c : Bool). cond c (new (machine_in key)) (finite.get before key)) off
     other false off = refl
 
     by : ((place_in key) ≡ place) ⊎ ((place_in key) ≡ place → ⊥)
-        → cond (nat_lt place 64 && nat_eq (place_in key) place) (new (machine_in key)) (finite.get before key) ≡ waiting (nat_lt (place_in key) (place + 1)) at (key_due (set dues place new) key)
+        → cond (nat_lt place 64 && nat_eq (place_in key) place) (new (machine_in key)) (finite.get before key)
+        ≡ waiting (nat_lt (place_in key) (place + 1)) at (key_due (set dues place new) key)
     by (inl same) = here (cases_lt place 64) same
     by (inr apart) =
         other (nat_lt place 64) (apart_eqb (nat_eq (place_in key) place) refl) ∙ waits key
@@ -146,7 +155,9 @@ waits_put at place dues new before now lt put waits key = put key ∙ by (cases_
 pub moments_none : (dues : List MachineDues) (moments : Moments) → dues ≡ [] → moments ≡ finite.empty → AreMoments dues moments
 moments_none dues moments none empty key =
     ap (λ (m : Moments). finite.get m key) empty ∙ finite.get-empty nat_cmp key
-    ∙ sym (ap (λ (all : List MachineDues). key_due all key) none ∙ ap (λ (d : MachineDues). d (machine_in key)) (past_end [] 64 (place_in key) never (omega arith)) ∙ never_due (machine_in key))
+    ∙ sym
+    (ap (λ (all : List MachineDues). key_due all key) none
+    ∙ ap (λ (d : MachineDues). d (machine_in key)) (past_end [] 64 (place_in key) never (omega arith)) ∙ never_due (machine_in key))
 
 -- ---- what is taken
 
@@ -172,7 +183,8 @@ pub untaken : (at : ℕ) (dues : List MachineDues) (moments : Moments) (place : 
 untaken at dues moments place are none machine =
     let key : ℕ = number_of place machine in
     let keys : List ℕ = finite.keys (due_by at moments) in
-    ap (λ (due : Option ℕ). has_come due at) (sym (are key ∙ (λ i. at_place dues (placed place machine i) (ranked place machine i)))) ∙ sym (keys_due at moments key)
+    ap (λ (due : Option ℕ). has_come due at) (sym (are key ∙ (λ i. at_place dues (placed place machine i) (ranked place machine i))))
+    ∙ sym (keys_due at moments key)
     ∙ untaken_key keys key (subst (λ (here : ℕ). list_any (λ (k : ℕ). nat_eq (place_in k) here) keys ≡ false) (sym (placed place machine)) none)
 
 -- ---- the moments while they are put, one interface after another
@@ -207,12 +219,17 @@ moments_more dues place new before now long put are key = put key ∙ by (cases_
     here (inl near) same =
         ap (λ (b : Bool). cond (b && nat_eq (place_in key) place) (new (machine_in key)) (finite.get before key)) (lt-ltb place 64 near)
         ∙ ap (λ (b : Bool). cond b (new (machine_in key)) (finite.get before key)) (eq-eqb (place_in key) place same)
-        ∙ sym (ap (λ (i : ℕ). at_place (dues ++ new ∷ []) i (machine_in key)) (same ∙ sym long) ∙ grown_here dues new (machine_in key) (omega (arith, near, long)))
+        ∙ sym
+        (ap (λ (i : ℕ). at_place (dues ++ new ∷ []) i (machine_in key)) (same ∙ sym long)
+        ∙ grown_here dues new (machine_in key) (omega (arith, near, long)))
     here (inr far) same =
         ap (λ (b : Bool). cond (b && nat_eq (place_in key) place) (new (machine_in key)) (finite.get before key)) (le-ltb place 64 far)
-        ∙ are key ∙ ap (λ (d : MachineDues). d (machine_in key)) (past_front dues 64 (place_in key) never (omega arith) ∙ sym (past_front (dues ++ new ∷ []) 64 (place_in key) never (omega arith)))
+        ∙ are key
+        ∙ ap (λ (d : MachineDues). d (machine_in key))
+        (past_front dues 64 (place_in key) never (omega arith) ∙ sym (past_front (dues ++ new ∷ []) 64 (place_in key) never (omega arith)))
 
-    other : (b : Bool) → nat_eq (place_in key) place ≡ false → cond (b && nat_eq (place_in key) place) (new (machine_in key)) (finite.get before key) ≡ finite.get before key
+    other : (b : Bool) → nat_eq (place_in key) place ≡ false
+        → cond (b && nat_eq (place_in key) place) (new (machine_in key)) (finite.get before key) ≡ finite.get before key
     other true off = ap (λ (c : Bool). cond c (new (machine_in key)) (finite.get before key)) off
     other false off = refl
 

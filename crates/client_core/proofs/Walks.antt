@@ -116,7 +116,9 @@ module _ (own : List Mac) (turn : Turn) (xs : List Iface) where
               (sym (append-nil asked.sends) ∙ ap (λ (one : IfaceStep). asked.sends ++ sends_of one) (sym rests));
           tell = add_more go news xs ys place d first.news asked.news asked.news gone walked.tell
               (sym (append-nil asked.news) ∙ ap (λ (one : IfaceStep). asked.news ++ news_of one) (sym rests));
-          untouched = untouched_more go (λ (iface : Iface). turned_same own turn iface) xs ys place d old false walk.touched.ifaces.items walk.touched.ifaces.items gone is
+          untouched =
+              untouched_more go
+              (λ (iface : Iface). turned_same own turn iface) xs ys place d old false walk.touched.ifaces.items walk.touched.ifaces.items gone is
               (sym (append-nil walk.touched.ifaces.items)) (λ (no : _). record { kept4 = refl; kept6 = refl }) walked.untouched;
           untold = walked.untold;
           jobs = jobs_next step xs place d made made all lt walked.jobs
@@ -136,7 +138,8 @@ module _ (own : List Mac) (turn : Turn) (xs : List Iface) where
           let d : Iface = one_of xs place lt in
           let same : (place + 1) + n ≡ place + suc n = omega arith in
           subst At same
-          (skip_many n (place + 1) (omega arith) (λ (other : ℕ) (ge : place + 1 ≤ other) (less : other < (place + 1) + n). none other (omega arith) (omega arith))
+          (skip_many n (place + 1) (omega arith)
+          (λ (other : ℕ) (ge : place + 1 ≤ other) (less : other < (place + 1) + n). none other (omega arith) (omega arith))
           (skip_one place d lt (near place out) (idle place d lt out) walked))
 
       -- up to the next one that has something to do
@@ -299,7 +302,8 @@ module _ (own : List Mac) (turn : Turn) (xs : List Iface) where
     pub done_jobs : made ≡ all
     done_jobs = jobs_done step xs place made all over walked.jobs
 
-    pub done_leads : (diff : Diff) → ((before after : List (List HostRow)) → Sums before after walk.rows → Differ before after diff) → Leads diff (wanted_rows xs) (wanted_rows ys)
+    pub done_leads : (diff : Diff) → ((before after : List (List HostRow)) → Sums before after walk.rows → Differ before after diff)
+        → Leads diff (wanted_rows xs) (wanted_rows ys)
     done_leads diff all =
         let differ : Differ (map iface_rows xs) (map iface_rows ys) diff = all (map iface_rows xs) (map iface_rows ys) walked.leads in
         record {

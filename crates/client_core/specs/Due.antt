@@ -1,4 +1,5 @@
--- When the machines of interfaces are due, by the places of the interfaces. Each machine has a number: by place, then as machines tick.
+-- When the machines of interfaces are due, by the places of the interfaces. Each machine has a number: by place, then
+-- as machines tick.
 use Rattle.std.specs.Prelude.{◌≡◌, ℕ, zero, suc, ◌+◌, ◌*◌, ◌/◌, ◌%◌, ◌==◌, ◌&&◌, nat_lt, if◌then◌else◌, Bool, List, take, slice_index_or, Option, None}
 use Rattle.std.specs.List.{list_any}
 use Rattle.std.specs.FinMap as map
@@ -49,10 +50,13 @@ key_due dues key = slice_index_or (take 64 dues) (place_in key) never (machine_i
 abbrev pub AreMoments : List MachineDues → Moments → Type 0
 AreMoments dues moments = (key : ℕ) → map.get moments key ≡ key_due dues key
 
--- the machines of the interface at a place have these moments now, where the place has numbers; all others have what they had
+-- the machines of the interface at a place have these moments now, where the place has numbers; all others have what
+-- they had
 abbrev pub PutsMoments : ℕ → MachineDues → (old new : Moments) → Type 0
 PutsMoments place dues old new =
-    (key : ℕ) → map.get new key ≡ (if nat_lt place 64 && place_in key == place then dues (machine_in key) else map.get old key)
+    (key : ℕ)
+    → map.get new key
+    ≡ (if nat_lt place 64 && place_in key == place then dues (machine_in key) else map.get old key)
 
 -- whether a machine of the interface at a place is due
 abbrev pub is_taken : ℕ → Moments → (place : ℕ) → Bool

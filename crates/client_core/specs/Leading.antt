@@ -19,4 +19,5 @@ Alters (Some diff) before after = Differ before after diff
 -- the changes that led to rows so far lead on to those that come of a further one
 abbrev pub LeadsOn : Option Diff → (so_far all : Diffs) → Type 0
 LeadsOn change so_far all =
-    (before between after : List (List HostRow)) → Sums before between so_far → Alters change between after → Sums before after all
+    (before between after : List (List HostRow)) → Sums before between so_far → Alters change between after
+    → Sums before after all

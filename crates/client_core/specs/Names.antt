@@ -15,4 +15,5 @@ is_named (first ∷ indices) zero index = first == index
 is_named (first ∷ indices) (suc place) index = is_named indices place index
 
 abbrev pub AreNamed : List ℕ → Named → Type 0
-AreNamed indices named = (index place : ℕ) → place < 64 → has (named_as named index) place ≡ is_named indices place index
+AreNamed indices named =
+    (index place : ℕ) → place < 64 → has (named_as named index) place ≡ is_named indices place index

@@ -26,7 +26,8 @@ is_met index Stop = true
 is_met index Quiet = false
 is_met index End = false
 
--- whether something comes to it from outside: the input, or word that a frame of its own couldn't be sent in the turn before
+-- whether something comes to it from outside: the input, or word that a frame of its own couldn't be sent in the turn
+-- before
 abbrev pub is_called : ℕ → Turn → Bool
 is_called index turn = is_in turn.unsent index || is_met index turn.event
 
@@ -37,7 +38,8 @@ has_work due index turn = is_due due turn.at || is_called index turn
 -- the interfaces that are asked for are at these places, where they have one below 64
 abbrev pub Finds : (asks : ℕ → Bool) → Named → Places → Type 0
 Finds asks named places =
-    (index place : ℕ) → IsInterface index → place < 64 → asks index ≡ true → has (named_as named index) place ≡ true → has places place ≡ true
+    (index place : ℕ) → IsInterface index → place < 64 → asks index ≡ true → has (named_as named index) place ≡ true
+    → has places place ≡ true
 
 abbrev pub IsAtRest : Turn → Iface → Type 0
 IsAtRest turn iface = has_work (iface_due iface) (index_of iface) turn ≡ false

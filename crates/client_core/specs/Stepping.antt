@@ -16,7 +16,8 @@ abbrev pub IsOnInterface : Sending → Type 0
 IsOnInterface sending = IsInterface sending.iface.number
 
 -- The interfaces are as these steps leave them, and the steps' frames and news come after those before.
-pub record GoAll {X : Type 0} (step : X → IfaceStep) (xs : List X) (ifaces : List Iface) (before after : Asked) : Type 0 where
+pub record GoAll {X : Type 0} (step : X → IfaceStep) (xs : List X) (ifaces : List Iface)
+    (before after : Asked) : Type 0 where
   pub go_on : ifaces ≡ map (λ x. (step x).iface) xs
   pub offer : after.sends ≡ before.sends ++ flat_map (λ x. sends_of (step x)) xs
   pub tell : after.news ≡ before.news ++ flat_map (λ x. news_of (step x)) xs

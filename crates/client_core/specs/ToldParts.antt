@@ -1,5 +1,5 @@
--- What an interface tells the resolver, as it is kept: a part of IPv4, and one of IPv6. One that tells nothing has neither servers
--- nor names.
+-- What an interface tells the resolver, as it is kept: a part of IPv4, and one of IPv6. One that tells nothing has
+-- neither servers nor names.
 use Rattle.std.specs.Prelude.{◌≡◌, ℕ, ◌+◌, ◌*◌, if◌then◌else◌, List, [], ◌∷◌, flat_map, slice_set, Option, Some, None}
 use Rattle.resolver_text.specs.declared.part.Family.{Family}
 use Rattle.resolver_text.specs.declared.part.Family.TheVariants.{V4, V6}
@@ -33,8 +33,10 @@ all_told ifaces = flat_map told_parts ifaces
 -- with those of the interface at a place
 abbrev pub told_with : ℕ → Iface → List PartContent → List PartContent
 told_with place iface parts =
-    slice_set (slice_set parts (2 * place) (told4 iface)) (2 * place + 1) (told6 iface.managed (dhcp6.held_of iface.dhcp6))
+    slice_set (slice_set parts (2 * place) (told4 iface)) (2 * place + 1)
+    (told6 iface.managed (dhcp6.held_of iface.dhcp6))
 
 -- two parts are of one interface with one metric, and of one protocol
 abbrev pub HaveOneOrigin : Part → Part → Type 0
-HaveOneOrigin one other = (one.metric ≡ other.metric) × ((one.index ≡ other.index) × ((one.name ≡ other.name) × (one.family ≡ other.family)))
+HaveOneOrigin one other =
+    (one.metric ≡ other.metric) × ((one.index ≡ other.index) × ((one.name ≡ other.name) × (one.family ≡ other.family)))

@@ -65,10 +65,11 @@ abbrev pub is_other : Resolver → Bool
 is_other Same = false
 is_other Other = true
 
--- An interface that isn't among those touched keeps the leases that it kept. The resolver is touched where the interfaces tell it
--- something else, and there alone; where it isn't, what it is told stays.
+-- An interface that isn't among those touched keeps the leases that it kept. The resolver is touched where the
+-- interfaces tell it something else, and there alone; where it isn't, what it is told stays.
 pub record KeepsUntouched (touched : Touched) (old new : List Iface) : Type 0 where
   pub kept4 : (index : ℕ) → is_touched index touched.ifaces.items ≡ false → kept_lease index new ≡ kept_lease index old
-  pub kept6 : (index : ℕ) → is_touched index touched.ifaces.items ≡ false → kept_lease6 index new ≡ kept_lease6 index old
+  pub kept6 : (index : ℕ) → is_touched index touched.ifaces.items ≡ false
+      → kept_lease6 index new ≡ kept_lease6 index old
   pub tells : Compares touched.resolver (all_told old) (all_told new)
   pub resolver : touched.resolver ≡ Same → resolver_wanted new ≡ resolver_wanted old

@@ -70,9 +70,15 @@ fn opened_ifaces(
 ) -> Result<Vec<Iface>, NoMemory>
     requires fit { AreBeginnings (map beginning_of beginnings.items) }
     requires told { (asked_in outs.old).told ≡ [] }
-    ensures goes { IfOk result (λ all. GoAll (opened begin.up (moment_of begin.at) begin.salt) (map beginning_of beginnings.items) all.items (asked_in outs.old) (asked_in outs.new)) }
+    ensures goes { IfOk result
+        (λ all. GoAll (opened begin.up (moment_of begin.at) begin.salt)
+        (map beginning_of beginnings.items) all.items (asked_in outs.old) (asked_in outs.new)) }
     ensures fit { IfOk result (λ all. AreIfaces all.items) }
-    ensures jobs { IfOk result (λ _. map job_of jobs.new.items ≡ map job_of jobs.old.items ++ jobs_along [] [] (map (opened begin.up (moment_of begin.at) begin.salt) (map beginning_of beginnings.items))) }
+    ensures jobs { IfOk result
+        (λ _. map job_of jobs.new.items
+        ≡ map job_of jobs.old.items
+        ++ jobs_along [] []
+        (map (opened begin.up (moment_of begin.at) begin.salt) (map beginning_of beginnings.items))) }
 {
     let opening = Begin {
         at: clamp_moment(begin.at),
@@ -104,8 +110,8 @@ pub struct Opened {
     pub jobs: Vec<HookJob>,
 }
 
-/// Opens the client over its managed interfaces, as a life begins. `specs` are all interfaces, managed or not, whose packets
-/// are known as the client's own.
+/// Opens the client over its managed interfaces, as a life begins. `specs` are all interfaces, managed or not, whose
+/// packets are known as the client's own.
 pub fn core_open(
     alloc: Global,
     beginnings: Vec<Beginning>,
@@ -113,8 +119,11 @@ pub fn core_open(
     begin: Begin,
 ) -> Result<Opened, NoMemory>
     requires { AreBeginnings (map beginning_of beginnings.items) }
-    ensures steps { IfOk result (λ done. Steps (opening (map beginning_of beginnings.items) specs.now begin) done.core (asked_in done.outs)) }
-    ensures jobs { IfOk result (λ done. map job_of done.jobs.items ≡ (opening (map beginning_of beginnings.items) specs.now begin).jobs) }
+    ensures steps { IfOk result
+        (λ done. Steps (opening (map beginning_of beginnings.items) specs.now begin) done.core
+        (asked_in done.outs)) }
+    ensures jobs { IfOk result
+        (λ done. map job_of done.jobs.items ≡ (opening (map beginning_of beginnings.items) specs.now begin).jobs) }
     ensures on_interfaces { IfOk result (λ done. AllByRecursion IsOnInterface (sends_in done.outs)) }
 {
     let own = own_addresses(alloc, specs)?;

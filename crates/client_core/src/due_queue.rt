@@ -1,4 +1,5 @@
-//! When interfaces are due, kept in a queue: each machine has a number, by the place of its interface, then as machines tick.
+//! When interfaces are due, kept in a queue: each machine has a number, by the place of its interface, then as machines
+//! tick.
 
 ghost use Rattle.std.specs.Prelude.{◌≡◌, ◌==◌, ℕ, ◌<◌, if◌then◌else◌, IfOk, MatchOption};
 ghost use Rattle.std.specs.FinMap as map;
@@ -76,7 +77,8 @@ fn places_of(numbers: &[usize]) -> Places
 /// Says when a machine of the interface at a place is due, or that it isn't.
 fn put_one(queue: &mut Queue<NUMBERS>, place: usize, machine: TimedMachine, due: Option<u64>)
     requires { place < 64 }
-    ensures { (key : ℕ) → map.get queue.new key ≡ (if key == number_of place machine then due else map.get queue.old key) }
+    ensures { (key : ℕ)
+        → map.get queue.new key ≡ (if key == number_of place machine then due else map.get queue.old key) }
 {
     let number = place * RANKS + rank(machine);
     match due {

@@ -1,5 +1,5 @@
-//! The jobs of hooks (dhcpcd-run-hooks(8)): those that interfaces tell of themselves, and those of the interfaces that share a
-//! prefix.
+//! The jobs of hooks (dhcpcd-run-hooks(8)): those that interfaces tell of themselves, and those of the interfaces that
+//! share a prefix.
 
 ghost use Rattle.std.specs.Prelude.{◌≡◌, ◌==◌, ◌++◌, [], find, flat_map, map, IfOk, OnOk};
 ghost use Rattle.std.specs.Option.{option_copied, option_to_list};
@@ -34,7 +34,9 @@ fn shared_job(
     net: Net6,
 ) -> Result<Option<HookJob>, NoMemory>
     requires { AreIfaces ifaces.now }
-    ensures { IfOk result (λ made. map job_of (option_to_list made) ≡ shared_jobs net (find (λ iface. index_of iface == index.number) ifaces.now)) }
+    ensures { IfOk result
+        (λ made. map job_of (option_to_list made)
+        ≡ shared_jobs net (find (λ iface. index_of iface == index.number) ifaces.now)) }
 {
     let Some(iface) = iface_of(ifaces, index) else {
         return Ok(None);
@@ -62,7 +64,8 @@ fn push_some(jobs: &mut Vec<HookJob>, made: Option<HookJob>) -> Result<(), Alloc
 /// Appends the job of what an interface told, where there is one.
 fn push_told(jobs: &mut Vec<HookJob>, ifaces: &[Iface], told: Told) -> Result<(), NoMemory>
     requires { AreIfaces ifaces.now }
-    ensures { OnOk result (map job_of jobs.new.items ≡ map job_of jobs.old.items ++ jobs_among ifaces.now (told_content told)) }
+    ensures { OnOk result
+        (map job_of jobs.new.items ≡ map job_of jobs.old.items ++ jobs_among ifaces.now (told_content told)) }
 {
     match told {
         Told::Own(job) => {
@@ -79,7 +82,9 @@ fn push_told(jobs: &mut Vec<HookJob>, ifaces: &[Iface], told: Told) -> Result<()
 
 fn push_all_told(jobs: &mut Vec<HookJob>, ifaces: &[Iface], all: Vec<Told>) -> Result<(), NoMemory>
     requires { AreIfaces ifaces.now }
-    ensures { OnOk result (map job_of jobs.new.items ≡ map job_of jobs.old.items ++ flat_map (jobs_among ifaces.now) (map told_content all.items)) }
+    ensures { OnOk result
+        (map job_of jobs.new.items
+        ≡ map job_of jobs.old.items ++ flat_map (jobs_among ifaces.now) (map told_content all.items)) }
 {
     for told in all {
         push_told(jobs, ifaces, told)?;
@@ -90,7 +95,9 @@ fn push_all_told(jobs: &mut Vec<HookJob>, ifaces: &[Iface], all: Vec<Told>) -> R
 /// Appends the jobs of what was told, while the interfaces are these. Nothing is told any more then.
 pub fn make_jobs(jobs: &mut Vec<HookJob>, ifaces: &[Iface], outs: &mut Outs) -> Result<(), NoMemory>
     requires { AreIfaces ifaces.now }
-    ensures jobs { OnOk result (map job_of jobs.new.items ≡ map job_of jobs.old.items ++ flat_map (jobs_among ifaces.now) (asked_in outs.old).told) }
+    ensures jobs { OnOk result
+        (map job_of jobs.new.items
+        ≡ map job_of jobs.old.items ++ flat_map (jobs_among ifaces.now) (asked_in outs.old).told) }
     ensures outs { OnOk result (asked_in outs.new ≡ record (asked_in outs.old) { told = [] }) }
 {
     let told = mem::replace(&mut outs.told, Vec::new(*jobs.allocator()));

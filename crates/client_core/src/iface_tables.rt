@@ -35,8 +35,8 @@ pub fn tables_of(alloc: Global, ifaces: &[Iface]) -> Result<Tables, NoMemory>
     Ok(tables)
 }
 
-/// Brings the rows of the interface at a place up to date, where they may differ, and says how the wanted rows changed, where its
-/// rows did.
+/// Brings the rows of the interface at a place up to date, where they may differ, and says how the wanted rows changed,
+/// where its rows did.
 pub fn renew_rows(
     alloc: Global,
     tables: &mut Tables,

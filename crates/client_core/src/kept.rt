@@ -76,7 +76,8 @@ impl Kept {
         })
     }
 
-    /// The places of the interfaces that have something to do in a turn. What is due of them isn't in the queue any more.
+    /// The places of the interfaces that have something to do in a turn. What is due of them isn't in the queue any
+    /// more.
     pub fn take(&mut self, turn: &Turn<'_>) -> Places
         ensures { Takes (turn_of turn.now) result self.old self.new }
     {

@@ -1,6 +1,6 @@
-//! The rows of a DHCPv6 lease: each of its addresses by itself (RFC 8415, section 18.2.10.1, leaves it to routers to tell the
-//! network). A delegated prefix is refused where no longer route leads into it (RFC 7084, WPD-5), and its shares have their
-//! subnets.
+//! The rows of a DHCPv6 lease: each of its addresses by itself (RFC 8415, section 18.2.10.1, leaves it to routers to
+//! tell the network). A delegated prefix is refused where no longer route leads into it (RFC 7084, WPD-5), and its
+//! shares have their subnets.
 
 ghost use Rattle.std.specs.Prelude.{◌≡◌, ◌++◌, IfSome, OnOk, flat_map, option_map};
 ghost use Rattle.std.specs.List.{AllByRecursion};
@@ -110,7 +110,9 @@ pub fn push_lease6(
     requires index { IsInterface outlet.iface.number }
     requires shares { AllByRecursion FitsShareConf shares.now }
     requires fits { IfSome (option_map (λ lease. lease6_content lease.now) lease) FitsLease6 }
-    ensures { OnOk result (rows.new ≡ rows.old ++ lease6_rows outlet shares.now (option_map (λ lease. lease6_content lease.now) lease.entry)) }
+    ensures { OnOk result
+        (rows.new
+        ≡ rows.old ++ lease6_rows outlet shares.now (option_map (λ lease. lease6_content lease.now) lease.entry)) }
 {
     match lease {
         None => Ok(()),

@@ -23,8 +23,8 @@ use world::Via;
 /// The bytes of an address.
 const ADDRESS_LEN: usize = 4;
 
-/// The first of the addresses that are the value, which is the preferred one (RFC 2132, section 3.5). None unless the value
-/// is one address or more.
+/// The first of the addresses that are the value, which is the preferred one (RFC 2132, section 3.5). None unless the
+/// value is one address or more.
 #[tactic(auto, using(crate::proofs::LeaseValues::first_four))]
 fn first_address(value: &[u8]) -> Option<Ip4>
     ensures { result ≡ option_and_then preferred (addrs_in value.now) }
@@ -126,7 +126,8 @@ pub fn push_lease(
 ) -> Result<(), NoMemory>
     requires index { IsInterface outlet.iface.number }
     requires fits { IfSome (option_map (λ lease. lease_content lease.now) lease) FitsLease }
-    ensures { OnOk result (rows.new ≡ rows.old ++ lease_rows outlet fixed (option_map (λ lease. lease_content lease.now) lease.entry)) }
+    ensures { OnOk result
+        (rows.new ≡ rows.old ++ lease_rows outlet fixed (option_map (λ lease. lease_content lease.now) lease.entry)) }
 {
     match lease {
         None => Ok(()),

@@ -26,7 +26,8 @@ impl Named {
     /// The interface at a place has this index.
     pub fn name(&mut self, place: usize, index: u32)
         requires { index ≤ 64 }
-        ensures { (other at : ℕ) → has (named_as self.new other) at ≡ ((other == index && at == place) || has (named_as self.old other) at) }
+        ensures { (other at : ℕ)
+            → has (named_as self.new other) at ≡ ((other == index && at == place) || has (named_as self.old other) at) }
     {
         let places = self.table[index as usize];
         self.table[index as usize] = places.with(place);

@@ -42,7 +42,9 @@ fn names_copied(alloc: Global, names: &[String]) -> Result<Vec<String>, AllocErr
 
 /// The servers of a DHCPv4 lease (RFC 2132, section 3.8).
 fn servers_in(alloc: Global, values: &[Value]) -> Result<Option<Vec<Ip4>>, NoMemory>
-    ensures { IfOk result (λ servers. option_map (λ v. v.items) servers ≡ option_and_then addrs_in (value_in DOMAIN_NAME_SERVERS (values_content values.now))) }
+    ensures { IfOk result
+        (λ servers. option_map (λ v. v.items) servers
+        ≡ option_and_then addrs_in (value_in DOMAIN_NAME_SERVERS (values_content values.now))) }
 {
     match value_in(values, DOMAIN_NAME_SERVERS.into()) {
         Some(value) => addrs_of(alloc, value),
@@ -52,7 +54,9 @@ fn servers_in(alloc: Global, values: &[Value]) -> Result<Option<Vec<Ip4>>, NoMem
 
 /// The names to search in of a DHCPv4 lease (RFC 3397).
 fn search_in(alloc: Global, values: &[Value]) -> Result<Option<Vec<String>>, NoMemory>
-    ensures { IfOk result (λ names. option_map (λ v. map string_bytes v.items) names ≡ option_and_then search_in (value_in DOMAIN_SEARCH (values_content values.now))) }
+    ensures { IfOk result
+        (λ names. option_map (λ v. map string_bytes v.items) names
+        ≡ option_and_then search_in (value_in DOMAIN_SEARCH (values_content values.now))) }
 {
     match value_in(values, DOMAIN_SEARCH.into()) {
         Some(value) => search_of(alloc, value),
@@ -62,7 +66,9 @@ fn search_in(alloc: Global, values: &[Value]) -> Result<Option<Vec<String>>, NoM
 
 /// The domain of a DHCPv4 lease (RFC 2132, section 3.17).
 fn domain_in(alloc: Global, values: &[Value]) -> Result<Option<String>, NoMemory>
-    ensures { IfOk result (λ domain. option_map string_bytes domain ≡ option_and_then text_in (value_in DOMAIN_NAME (values_content values.now))) }
+    ensures { IfOk result
+        (λ domain. option_map string_bytes domain
+        ≡ option_and_then text_in (value_in DOMAIN_NAME (values_content values.now))) }
 {
     match value_in(values, DOMAIN_NAME.into()) {
         Some(value) => text_of(alloc, value),
@@ -72,7 +78,9 @@ fn domain_in(alloc: Global, values: &[Value]) -> Result<Option<String>, NoMemory
 
 /// The name servers that are configured, or else those of a DHCPv4 lease.
 fn servers_said(alloc: Global, conf: &ResolverConf, values: &[Value]) -> Result<Vec<Ip4>, NoMemory>
-    ensures { IfOk result (λ servers. servers.items ≡ first_said conf.now.servers (read_as addrs_in DOMAIN_NAME_SERVERS (values_content values.now))) }
+    ensures { IfOk result
+        (λ servers. servers.items
+        ≡ first_said conf.now.servers (read_as addrs_in DOMAIN_NAME_SERVERS (values_content values.now))) }
 {
     if !conf.servers.is_empty() {
         return Ok(conf.servers.to_vec(alloc)?);
@@ -89,7 +97,9 @@ fn search_said(
     conf: &ResolverConf,
     values: &[Value],
 ) -> Result<Vec<String>, NoMemory>
-    ensures { IfOk result (λ names. map string_bytes names.items ≡ first_said conf.now.search (read_as search_in DOMAIN_SEARCH (values_content values.now))) }
+    ensures { IfOk result
+        (λ names. map string_bytes names.items
+        ≡ first_said conf.now.search (read_as search_in DOMAIN_SEARCH (values_content values.now))) }
 {
     if !conf.search.is_empty() {
         return Ok(names_copied(alloc, &conf.search)?);
@@ -102,7 +112,9 @@ fn search_said(
 
 /// The domain that is configured, or else that of a DHCPv4 lease.
 fn domain_said(alloc: Global, conf: &ResolverConf, values: &[Value]) -> Result<String, NoMemory>
-    ensures { IfOk result (λ domain. string_bytes domain ≡ first_said conf.now.domain (read_as text_in DOMAIN_NAME (values_content values.now))) }
+    ensures { IfOk result
+        (λ domain. string_bytes domain
+        ≡ first_said conf.now.domain (read_as text_in DOMAIN_NAME (values_content values.now))) }
 {
     if !conf.domain.is_empty() {
         return Ok(String::from_str(alloc, &conf.domain)?);
@@ -158,7 +170,8 @@ fn servers4(alloc: Global, conf: &ResolverConf, values: &[Value]) -> Result<Vec<
 
 /// The servers of a DHCPv6 lease (RFC 3646, section 3).
 fn servers6(alloc: Global, values: &[Value]) -> Result<Vec<Server>, NoMemory>
-    ensures { IfOk result (λ servers. servers.items ≡ map Server.V6 (read_as dns6_in DNS_SERVERS (values_content values.now))) }
+    ensures { IfOk result
+        (λ servers. servers.items ≡ map Server.V6 (read_as dns6_in DNS_SERVERS (values_content values.now))) }
 {
     let Some(value) = value_in(values, DNS_SERVERS) else {
         return Ok(Vec::new(alloc));
@@ -171,7 +184,8 @@ fn servers6(alloc: Global, values: &[Value]) -> Result<Vec<Server>, NoMemory>
 
 /// The names to search in of a DHCPv6 lease (RFC 3646, section 4).
 fn names6(alloc: Global, values: &[Value]) -> Result<Vec<String>, NoMemory>
-    ensures { IfOk result (λ names. map string_bytes names.items ≡ read_as search6_in DOMAIN_LIST (values_content values.now)) }
+    ensures { IfOk result
+        (λ names. map string_bytes names.items ≡ read_as search6_in DOMAIN_LIST (values_content values.now)) }
 {
     let Some(value) = value_in(values, DOMAIN_LIST) else {
         return Ok(Vec::new(alloc));
@@ -214,7 +228,9 @@ pub fn part4_with(
     lease: Option<&Lease4>,
 ) -> Result<Part, NoMemory>
     requires { IsInterface managed.now.spec.index.number }
-    ensures { IfOk result (λ part. part_content part ≡ part4_with managed.now (option_map (λ lease. lease_content lease.now) lease.entry)) }
+    ensures { IfOk result
+        (λ part. part_content part
+        ≡ part4_with managed.now (option_map (λ lease. lease_content lease.now) lease.entry)) }
 {
     let values = values_held(lease);
     let conf = &managed.conf.resolver;

@@ -42,7 +42,8 @@ fn unsent_places(named: &Named, unsent: u64) -> Places
     places
 }
 
-/// The places of the interfaces to which something comes from outside: the input, or word that a frame of their own couldn't be sent.
+/// The places of the interfaces to which something comes from outside: the input, or word that a frame of their own
+/// couldn't be sent.
 pub fn called_places(named: &Named, turn: &Turn<'_>) -> Places
     ensures { Finds (λ index. is_called index (turn_of turn.now)) named.now result }
 {

@@ -1,5 +1,5 @@
-//! What the interfaces tell the resolver (resolv.conf(5)), as it is kept: of each a part of IPv4, and then one of IPv6. A part that
-//! tells nothing has neither servers nor names, and so it doesn't count in the text.
+//! What the interfaces tell the resolver (resolv.conf(5)), as it is kept: of each a part of IPv4, and then one of IPv6.
+//! A part that tells nothing has neither servers nor names, and so it doesn't count in the text.
 
 ghost use Rattle.std.specs.Prelude.{◌≡◌, ◌<◌, ◌+◌, ◌*◌, ◌++◌, false, length, slice_set, IfOk, OnOk};
 ghost use Rattle.std.specs.Option.{option_map};
@@ -47,7 +47,8 @@ fn told4(alloc: Global, iface: &Iface) -> Result<Part, NoMemory>
 /// What an interface tells of IPv6, with this lease.
 fn told6(alloc: Global, managed: &Managed, lease: Option<&Lease6>) -> Result<Part, NoMemory>
     requires { IsInterface managed.now.spec.index.number }
-    ensures { IfOk result (λ part. part_content part ≡ told6 managed.now (option_map (λ lease. lease6_content lease.now) lease.entry)) }
+    ensures { IfOk result
+        (λ part. part_content part ≡ told6 managed.now (option_map (λ lease. lease6_content lease.now) lease.entry)) }
 {
     match lease {
         Some(lease) => part6_with(alloc, managed, lease),
@@ -93,7 +94,9 @@ fn renew_part(kept: &mut Part, part: Part) -> Resolver
 /// Puts the parts of a place there, and says whether they are others.
 fn put_parts(parts: &mut [Part], place: usize, four: Part, six: Part) -> Resolver
     requires { 2 * place + 1 < length parts.old }
-    ensures parts { parts_content parts.new ≡ slice_set (slice_set (parts_content parts.old) (2 * place) (part_content four)) (2 * place + 1) (part_content six) }
+    ensures parts { parts_content parts.new
+        ≡ slice_set (slice_set (parts_content parts.old) (2 * place) (part_content four)) (2 * place + 1)
+        (part_content six) }
     ensures compares { Compares result (parts_content parts.old) (parts_content parts.new) }
 {
     let first = renew_part(&mut parts[2 * place], four);

@@ -39,8 +39,8 @@ fn is_lost(before: bool, after: bool) -> bool
     before && !after
 }
 
-/// A turn of an interface. Where nothing is new its rows are as before, what it tells the resolver, and its kept leases; but one of
-/// DHCPv4 is given up where its address is declined.
+/// A turn of an interface. Where nothing is new its rows are as before, what it tells the resolver, and its kept
+/// leases; but one of DHCPv4 is given up where its address is declined.
 fn turn_iface(
     iface: &mut Iface,
     turn: &Turn<'_>,
@@ -49,7 +49,9 @@ fn turn_iface(
 ) -> Result<Changes, NoMemory>
     requires at { IsMoment turn.now.at }
     requires fits { FitsManaged iface.old.managed }
-    ensures goes { OnOk result (Goes (iface_turned own.now (turn_of turn.now) iface.old) iface.new (asked_in outs.old) (asked_in outs.new)) }
+    ensures goes { OnOk result
+        (Goes (iface_turned own.now (turn_of turn.now) iface.old) iface.new (asked_in outs.old)
+        (asked_in outs.new)) }
     ensures leaves { IfOk result (λ changes. LeavesBut changes iface.old iface.new) }
 {
     let told = outs.news.len();
@@ -118,7 +120,8 @@ impl Walk {
 
     /// The interface of this index had its turn.
     fn add(&mut self, index: IfIndex, changes: Changes, renewed: Renewed) -> Result<(), NoMemory>
-        ensures touched { OnOk result (self.new.touched.ifaces.items ≡ self.old.touched.ifaces.items ++ noted (may_keep changes) index) }
+        ensures touched { OnOk result
+            (self.new.touched.ifaces.items ≡ self.old.touched.ifaces.items ++ noted (may_keep changes) index) }
         ensures resolver { OnOk result (self.new.touched.resolver ≡ either self.old.touched.resolver renewed.resolver) }
         ensures rows { OnOk result (LeadsOn renewed.rows self.old.rows self.new.rows) }
     {
@@ -132,8 +135,8 @@ impl Walk {
     }
 }
 
-/// A turn of each interface that has something to do, in order, after which what is kept of it is up to date and what it told hooks
-/// has become jobs.
+/// A turn of each interface that has something to do, in order, after which what is kept of it is up to date and what
+/// it told hooks has become jobs.
 pub fn turn_all(
     ifaces: &mut [Iface],
     kept: &mut Kept,
@@ -145,10 +148,15 @@ pub fn turn_all(
     requires at { IsMoment turn.now.at }
     requires running { IsRunning ifaces.old kept.old }
     requires told { (asked_in outs.old).told ≡ [] }
-    ensures goes { OnOk result (GoAll (iface_turned own.now (turn_of turn.now)) ifaces.old ifaces.new (asked_in outs.old) (asked_in outs.new)) }
+    ensures goes { OnOk result
+        (GoAll (iface_turned own.now (turn_of turn.now)) ifaces.old ifaces.new (asked_in outs.old)
+        (asked_in outs.new)) }
     ensures running { OnOk result (IsRunning ifaces.new kept.new) }
     ensures untouched { IfOk result (λ turned. KeepsUntouched turned.touched ifaces.old ifaces.new) }
-    ensures jobs { OnOk result (map job_of jobs.new.items ≡ map job_of jobs.old.items ++ jobs_along [] ifaces.old (map (iface_turned own.now (turn_of turn.now)) ifaces.old)) }
+    ensures jobs { OnOk result
+        (map job_of jobs.new.items
+        ≡ map job_of jobs.old.items
+        ++ jobs_along [] ifaces.old (map (iface_turned own.now (turn_of turn.now)) ifaces.old)) }
     ensures leads { IfOk result (λ turned. Leads turned.rows (wanted_rows ifaces.old) (wanted_rows ifaces.new)) }
 {
     let alloc = *jobs.allocator();

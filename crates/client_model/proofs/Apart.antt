@@ -29,14 +29,18 @@ steps_from own turn before client ifaces same run =
     ∙ ap (map (iface_turned own turn)) run
     ∙ map-map (iface_turned own turn) (λ (iface : Iface). iface_run own iface before) ifaces
 
-ifaces_apart : (client : Client) (before : List Turn) → (client_run client before).ifaces ≡ map (λ (iface : Iface). iface_run client.own iface before) client.ifaces
+ifaces_apart : (client : Client) (before : List Turn)
+    → (client_run client before).ifaces ≡ map (λ (iface : Iface). iface_run client.own iface before) client.ifaces
 ifaces_apart client [] = sym (each_itself client.ifaces)
 ifaces_apart client (turn ∷ before) =
-    ap (map (λ (step : IfaceStep). step.iface)) (steps_from client.own turn before (client_run client before) client.ifaces (own_stays client before) (ifaces_apart client before))
+    ap (map (λ (step : IfaceStep). step.iface))
+    (steps_from client.own turn before (client_run client before) client.ifaces (own_stays client before) (ifaces_apart client before))
     ∙ map-map (λ (step : IfaceStep). step.iface) (step_alone client.own turn before) client.ifaces
 
 pub apart : (client : Client) (turn : Turn) (before : List Turn) → RunsApart client turn before
 apart client turn before = record {
   ifaces = ifaces_apart client before;
-  sends = ap (flat_map sends_of) (steps_from client.own turn before (client_run client before) client.ifaces (own_stays client before) (ifaces_apart client before)) ∙ flat_map-map sends_of (step_alone client.own turn before) client.ifaces;
+  sends =
+      ap (flat_map sends_of) (steps_from client.own turn before (client_run client before) client.ifaces (own_stays client before) (ifaces_apart client before))
+      ∙ flat_map-map sends_of (step_alone client.own turn before) client.ifaces;
 }

@@ -67,7 +67,8 @@ once_unlike before (x ∷ codes) =
     let itself : is_among (x ∷ before) x ≡ true = ap (λ (b : Bool). b || is_among before x) (eq-eqb x x refl) in
     let apart : is_among (each_once (x ∷ before) codes) x ≡ false =
     once_among (x ∷ before) codes x ∙ ap (λ (b : Bool). is_among codes x && not b) itself ∙ and-false (is_among codes x) in
-    gated AreUnlike (is_among before x) (each_once before codes) (x ∷ each_once (x ∷ before) codes) (once_unlike before codes) (apart, once_unlike (x ∷ before) codes)
+    gated AreUnlike (is_among before x) (each_once before codes) (x ∷ each_once (x ∷ before) codes) (once_unlike before codes)
+    (apart, once_unlike (x ∷ before) codes)
 
 -- ---- the first of them
 
@@ -76,7 +77,8 @@ take_among zero codes code h = cc
 take_among (suc n) [] code h = cc
 take_among (suc n) (x ∷ codes) code h =
     split (nat_eq x code) (λ same. ap (λ (b : Bool). b || is_among codes code) same)
-    (λ apart. ap (λ (b : Bool). b || is_among codes code) apart ∙ take_among n codes code (sym (ap (λ (b : Bool). b || is_among (take n codes) code) apart) ∙ h))
+    (λ apart. ap (λ (b : Bool). b || is_among codes code) apart
+    ∙ take_among n codes code (sym (ap (λ (b : Bool). b || is_among (take n codes) code) apart) ∙ h))
 
 take_unlike : (n : ℕ) (codes : List ℕ) → AreUnlike codes → AreUnlike (take n codes)
 take_unlike zero codes unlike = tt

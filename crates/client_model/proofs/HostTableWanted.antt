@@ -64,7 +64,8 @@ router_on outlet net (Some router) =
 address_on : (outlet : Outlet) (net : Net4) → All (On outlet.iface) (address_rows outlet net)
 address_on outlet net = All-cons (On outlet.iface) (Addr outlet.iface (Family.V4 net)) (network_routes outlet net) refl (network_on outlet net)
 
-static_on : (outlet : Outlet) (in_force : Bool) (address : Option Net4) (router : Option Ip4) → All (On outlet.iface) (static_rows outlet in_force address router)
+static_on : (outlet : Outlet) (in_force : Bool) (address : Option Net4) (router : Option Ip4)
+    → All (On outlet.iface) (static_rows outlet in_force address router)
 static_on outlet false address router = All-nil (On outlet.iface)
 static_on outlet true None router = All-nil (On outlet.iface)
 static_on outlet true (Some net) router =
@@ -78,15 +79,18 @@ classless_on : (outlet : Outlet) (net : Net4) (route : ClasslessRoute) → All (
 classless_on outlet net route =
     let direct : HostRow = Route outlet.iface (Family.V4 route.dest) OnLink outlet.metric in
     let gated : HostRow = Route outlet.iface (Family.V4 route.dest) (Gate4 route.via) outlet.metric in
-    cond_both (nat_eq route.via.number 0) (direct ∷ []) (gated ∷ gateway_routes outlet net route.via) (All (On outlet.iface)) (λ _. one_on outlet.iface direct refl)
+    cond_both (nat_eq route.via.number 0) (direct ∷ []) (gated ∷ gateway_routes outlet net route.via) (All (On outlet.iface))
+    (λ _. one_on outlet.iface direct refl)
     (λ _. All-cons (On outlet.iface) gated (gateway_routes outlet net route.via) refl (gateway_on outlet net route.via))
 
 each_on : (outlet : Outlet) (net : Net4) (routes : List ClasslessRoute) → All (On outlet.iface) (flat_map (classless_rows outlet net) routes)
 each_on outlet net [] = All-nil (On outlet.iface)
 each_on outlet net (route ∷ routes) =
-    All-append (On outlet.iface) (classless_rows outlet net route) (flat_map (classless_rows outlet net) routes) (classless_on outlet net route) (each_on outlet net routes)
+    All-append (On outlet.iface) (classless_rows outlet net route) (flat_map (classless_rows outlet net) routes) (classless_on outlet net route)
+    (each_on outlet net routes)
 
-lease_routes_on : (outlet : Outlet) (net : Net4) (routes : Option (List ClasslessRoute)) (router : Option Ip4) → All (On outlet.iface) (lease_routes outlet net routes router)
+lease_routes_on : (outlet : Outlet) (net : Net4) (routes : Option (List ClasslessRoute)) (router : Option Ip4)
+    → All (On outlet.iface) (lease_routes outlet net routes router)
 lease_routes_on outlet net (Some routes) router = each_on outlet net routes
 lease_routes_on outlet net None router = router_on outlet net router
 
@@ -227,5 +231,7 @@ wantable ifaces lead =
     let kept = filter (is_kept rows) rows in
     record {
       in_order = in_order_sorted kept;
-      on_managed = put_keeps (λ row. is_managed managed row ≡ true) [] kept (All-nil (λ row. is_managed managed row ≡ true)) (All-filter (is_kept rows) (λ row. is_managed managed row ≡ true) rows (ifaces_managed managed ifaces (all_lead managed) lead));
+      on_managed =
+          put_keeps (λ row. is_managed managed row ≡ true) [] kept (All-nil (λ row. is_managed managed row ≡ true))
+          (All-filter (is_kept rows) (λ row. is_managed managed row ≡ true) rows (ifaces_managed managed ifaces (all_lead managed) lead));
     }

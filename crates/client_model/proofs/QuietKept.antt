@@ -182,7 +182,8 @@ heard_still turn said Off = λ n. refl
 heard_still turn said (Init due) = λ n. refl
 heard_still turn said (Selecting xid began secs backoff due) = offered_still turn xid secs (Selecting xid began secs backoff due) said
 heard_still turn said (Requesting exchange secs backoff due) = answered_still turn exchange.xid Offered None (Requesting exchange secs backoff due) said
-heard_still turn said (Rebooting exchange backoff end due stands) = answered_still turn exchange.xid Rebooted stands (Rebooting exchange backoff end due stands) said
+heard_still turn said (Rebooting exchange backoff end due stands) =
+    answered_still turn exchange.xid Rebooted stands (Rebooting exchange backoff end due stands) said
 heard_still turn said (Checking xid terms origin acd stands) = λ n. refl
 heard_still turn said (Waiting due) = λ n. refl
 heard_still turn said (Bound xid terms acd) = λ n. refl
@@ -305,7 +306,8 @@ carried_still at salt false iface =
 
 rebind_dhcp6_still : (at salt : ℕ) (iface : Iface) → KeepsStill iface (rebind_dhcp6 at salt iface)
 rebind_dhcp6_still at salt iface =
-    gated (KeepsStill iface) (runs_dhcp6 iface.managed.conf) (dhcp6_step iface (rebind_turned at salt iface.dhcp6)) (silent iface) (λ n. same _ _ _ refl) (λ n. same _ _ _ refl)
+    gated (KeepsStill iface) (runs_dhcp6 iface.managed.conf) (dhcp6_step iface (rebind_turned at salt iface.dhcp6)) (silent iface) (λ n. same _ _ _ refl)
+    (λ n. same _ _ _ refl)
 
 rebinds_still : (at salt : ℕ) (iface : Iface) → KeepsStill iface (machines_rebind at salt iface)
 rebinds_still at salt iface =
@@ -343,7 +345,8 @@ module _ (own : List Mac) (at salt : ℕ) (bytes : List ℕ) where
   hears_still : (iface : Iface) → KeepsStill iface (hears own at salt bytes iface)
   hears_still iface = either_still (arp_heard bytes) (heard4_in iface.managed.spec.mac bytes) (heard6_in iface.managed.spec.mac bytes) iface
 
-  named_still : (index : ℕ) (iface : Iface) (step : IfaceStep) → KeepsStill iface step → KeepsStill iface (cond (nat_eq (index_of iface) index) step (silent iface))
+  named_still : (index : ℕ) (iface : Iface) (step : IfaceStep) → KeepsStill iface step
+      → KeepsStill iface (cond (nat_eq (index_of iface) index) step (silent iface))
   named_still index iface step still = gated (KeepsStill iface) (nat_eq (index_of iface) index) step (silent iface) still (λ n. same _ _ _ refl)
 
   taken_still : (event : Event) (iface : Iface) → KeepsStill iface (taken own at salt event bytes iface)
@@ -365,7 +368,8 @@ ticked_still at salt iface =
     let first : IfaceStep = tick_dhcp4 at salt iface in
     let local : IfaceStep = then_step first (tick_local at salt) in
     both_still iface local (tick_dhcp6 at salt)
-    (both_still iface first (tick_local at salt) (dhcp4_still at iface (tick_step at salt iface.dhcp4) (tick_step_still at salt iface.dhcp4)) (λ n. same _ _ _ refl))
+    (both_still iface first (tick_local at salt) (dhcp4_still at iface (tick_step at salt iface.dhcp4) (tick_step_still at salt iface.dhcp4))
+    (λ n. same _ _ _ refl))
     (λ n. same _ _ _ refl)
 
 no_news_told : (reports : List Report) → map (λ (report : Report). report.news) reports ≡ [] → reports ≡ []

@@ -120,7 +120,8 @@ module _ (name : Name) (fresh : List ValueContent) (kept : Option LeaseContent) 
       (gated (KeepsHeld (Rebooting exchange backoff end due stands)) (nat_le end turn.at) (record (discovers turn) { news = standing_news stands })
       (rebooting turn exchange (doubled backoff) end stands) (unanswered_keeps turn exchange backoff end due stands) (λ e. refl))
   tick_keeps turn (Checking xid terms origin acd stands) =
-      gated (KeepsHeld (Checking xid terms origin acd stands)) (is_due (standing_until stands) turn.at) (falls turn (Checking xid terms origin acd None)) _ (λ e. cc)
+      gated (KeepsHeld (Checking xid terms origin acd stands)) (is_due (standing_until stands) turn.at) (falls turn (Checking xid terms origin acd None)) _
+      (λ e. cc)
       (gated (KeepsHeld (Checking xid terms origin acd stands)) (is_due (expiry terms) turn.at) (record (to_init turn) { news = standing_news stands })
       (checked turn xid terms origin (detection.acd_tick acd turn.at turn.salt).acd stands (detection.acd_tick acd turn.at turn.salt).says)
       (unchecked_keeps turn xid terms origin acd stands)
@@ -184,7 +185,8 @@ module _ (name : Name) (fresh : List ValueContent) (kept : Option LeaseContent) 
   heard_keeps turn said (Init due) = λ e. refl
   heard_keeps turn said (Selecting xid began secs backoff due) = offered_keeps turn xid secs (Selecting xid began secs backoff due) said refl
   heard_keeps turn said (Requesting exchange secs backoff due) = answered_keeps turn exchange.xid Offered None (Requesting exchange secs backoff due) said refl
-  heard_keeps turn said (Rebooting exchange backoff end due stands) = answered_keeps turn exchange.xid Rebooted stands (Rebooting exchange backoff end due stands) said refl
+  heard_keeps turn said (Rebooting exchange backoff end due stands) =
+      answered_keeps turn exchange.xid Rebooted stands (Rebooting exchange backoff end due stands) said refl
   heard_keeps turn said (Checking xid terms origin acd stands) = λ e. refl
   heard_keeps turn said (Waiting due) = λ e. refl
   heard_keeps turn said (Bound xid terms acd) = λ e. refl

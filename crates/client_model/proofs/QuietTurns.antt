@@ -97,7 +97,8 @@ module _ (own : List Mac) (at salt : ℕ) (arp : ArpView) where
       → HeldStays (Chosen conflicts (mk i addr phase)) (ll_hears own (at_state iface (Chosen conflicts (mk i addr phase))) arp at salt)
   hears_chosen iface i conflicts addr (Probing n due) =
       split (is_contested own addr arp) (λ taken. rw taken (λ none. after_none iface (one_more conflicts) at salt)) (λ calm. rw calm (λ none. refl))
-  hears_chosen iface i conflicts addr (Announcing due None) = split (is_used own addr arp) (λ in_use. rw in_use (λ none. refl)) (λ other. rw other (λ none. refl))
+  hears_chosen iface i conflicts addr (Announcing due None) =
+      split (is_used own addr arp) (λ in_use. rw in_use (λ none. refl)) (λ other. rw other (λ none. refl))
   hears_chosen iface i conflicts addr (Announcing due (Some last)) =
       split (is_used own addr arp)
       (λ in_use. rw in_use (split (nat_le 10000 (at - last)) (λ late. rw late (λ none. refl)) (λ soon. rw soon (λ none. cc))))
@@ -115,7 +116,8 @@ module _ (own : List Mac) (at salt : ℕ) (arp : ArpView) where
   hears_stays iface (Chosen conflicts acd) = hears_chosen iface acd.iface conflicts acd.addr acd.phase
   hears_stays iface (Waiting conflicts due) = λ none. refl
 
-phase_restarts : (i : IfIndex) (addr : Ip4) (phase : Phase) (at salt : ℕ) → detection.held_in addr (detection.acd_restarts (mk i addr phase) at salt).phase ≡ detection.held_in addr phase
+phase_restarts : (i : IfIndex) (addr : Ip4) (phase : Phase) (at salt : ℕ)
+    → detection.held_in addr (detection.acd_restarts (mk i addr phase) at salt).phase ≡ detection.held_in addr phase
 phase_restarts i addr (Probing n due) at salt =
     gated (λ (p : Phase). detection.held_in addr p ≡ None) (nat_lt 0 n) (detection.probing_anew i at salt) (Probing n due) refl refl
 phase_restarts i addr (Announcing due last) at salt = refl
@@ -141,7 +143,8 @@ armed_stays conf at iface state =
     (gated (λ (local : LinkLocal). held_in local.state ≡ held_in state) (nat_eq conf.timeout 0) (at_state iface state)
     (ll_armed (at_state iface state) (at + SECOND * conf.timeout) ForLease (fallback_of (chooses_local conf))) refl
     (arm_stays iface state (at + SECOND * conf.timeout) ForLease (fallback_of (chooses_local conf))))
-    (gated (λ (local : LinkLocal). held_in local.state ≡ held_in state) (chooses_local conf) (ll_armed (at_state iface state) at ForNothing Choose) (at_state iface state)
+    (gated (λ (local : LinkLocal). held_in local.state ≡ held_in state) (chooses_local conf) (ll_armed (at_state iface state) at ForNothing Choose)
+    (at_state iface state)
     (arm_stays iface state at ForNothing Choose) refl)
 
 -- ---- the interface
@@ -358,7 +361,8 @@ module _ (own : List Mac) (at salt : ℕ) (bytes : List ℕ) where
   hears_quiet : (iface : Iface) → IsQuiet iface (hears own at salt bytes iface)
   hears_quiet iface = either_quiet (arp_heard bytes) (heard4_in iface.managed.spec.mac bytes) (heard6_in iface.managed.spec.mac bytes) iface
 
-  named_quiet : (index : ℕ) (iface : Iface) (step : IfaceStep) → IsQuiet iface step → IsQuiet iface (if nat_eq (index_of iface) index then step else silent iface)
+  named_quiet : (index : ℕ) (iface : Iface) (step : IfaceStep) → IsQuiet iface step
+      → IsQuiet iface (if nat_eq (index_of iface) index then step else silent iface)
   named_quiet index iface step quiet = gated (IsQuiet iface) (nat_eq (index_of iface) index) step (silent iface) quiet (silent_quiet iface)
 
   taken_quiet : (event : Event) (iface : Iface) → IsQuiet iface (taken own at salt event bytes iface)
@@ -373,7 +377,8 @@ module _ (own : List Mac) (at salt : ℕ) (bytes : List ℕ) where
   taken_quiet End iface = silent_quiet iface
 
   input_quiet : (event : Event) (iface : Iface) → IsQuiet iface (input_step own at salt event bytes iface)
-  input_quiet event iface = gated (IsQuiet iface) iface.stopped (silent iface) (taken own at salt event bytes iface) (silent_quiet iface) (taken_quiet event iface)
+  input_quiet event iface =
+      gated (IsQuiet iface) iface.stopped (silent iface) (taken own at salt event bytes iface) (silent_quiet iface) (taken_quiet event iface)
 
 ticked_quiet : (at salt : ℕ) (iface : Iface) → IsQuiet iface (ticked at salt iface)
 ticked_quiet at salt iface =

@@ -47,7 +47,8 @@ in_turn a b c first next = record {
 abbrev pub StepSame : Iface → IfaceStep → Type 0
 StepSame iface step = IsSame iface step.iface
 
-pub both_same : (iface : Iface) (first : IfaceStep) (next : Iface → IfaceStep) → StepSame iface first → StepSame first.iface (next first.iface) → StepSame iface (then_step first next)
+pub both_same : (iface : Iface) (first : IfaceStep) (next : Iface → IfaceStep) → StepSame iface first → StepSame first.iface (next first.iface)
+    → StepSame iface (then_step first next)
 both_same iface first next one two = in_turn iface first.iface (next first.iface).iface one two
 
 -- ---- the machines
@@ -110,7 +111,8 @@ comes_same at salt iface =
 
 goes_same : (at salt : ℕ) (iface : Iface) → StepSame iface (carrier_goes at salt iface)
 goes_same at salt iface =
-    let same : StepSame (record iface { up = false }) (machines_drop at salt (record iface { up = false })) = drops_same at salt (record iface { up = false }) in
+    let same : StepSame (record iface { up = false }) (machines_drop at salt (record iface { up = false })) =
+    drops_same at salt (record iface { up = false }) in
     record { managed = same.managed; settings = same.settings; settings6 = same.settings6 }
 
 carried_same : (at salt : ℕ) (up : Bool) (iface : Iface) → StepSame iface (carried at salt up iface)
@@ -123,7 +125,8 @@ rebound_same at salt iface = gated (StepSame iface) iface.up (machines_rebind at
 halted_same : (at salt : ℕ) (iface : Iface) → StepSame iface (halted at salt iface)
 halted_same at salt iface =
     let stopped : Iface = record iface { stopped = true } in
-    let same : StepSame stopped (machines_stop (told_at_stop iface.managed.conf) at salt stopped) = stops_same (told_at_stop iface.managed.conf) at salt stopped in
+    let same : StepSame stopped (machines_stop (told_at_stop iface.managed.conf) at salt stopped) =
+    stops_same (told_at_stop iface.managed.conf) at salt stopped in
     record { managed = same.managed; settings = same.settings; settings6 = same.settings6 }
 
 contested_same : (at salt : ℕ) (address : Ip6) (iface : Iface) → StepSame iface (contested at salt address iface)
@@ -137,7 +140,8 @@ module _ (own : List Mac) (at salt : ℕ) where
   message6_same None iface = itself iface
   message6_same (Some heard) iface = record { managed = refl; settings = refl; settings6 = (settings_stay iface.dhcp6 at salt).message heard.message tt }
 
-  message_same : (message : Option HeardMessage) (message6 : Option HeardMessage6) (iface : Iface) → StepSame iface (hears_message at salt message message6 iface)
+  message_same : (message : Option HeardMessage) (message6 : Option HeardMessage6) (iface : Iface)
+      → StepSame iface (hears_message at salt message message6 iface)
   message_same None message6 iface = message6_same message6 iface
   message_same (Some heard) message6 iface = record { managed = refl; settings = refl; settings6 = refl }
 
@@ -172,7 +176,8 @@ ticked_same at salt iface = record { managed = refl; settings = refl; settings6 
 
 pub unsent_same : (set at salt : ℕ) (iface : Iface) → IsSame iface (unsent_in set at salt iface)
 unsent_same set at salt iface =
-    gated (IsSame iface) (is_in set (index_of iface)) (restarted at salt iface) iface (record { managed = refl; settings = refl; settings6 = refl }) (itself iface)
+    gated (IsSame iface) (is_in set (index_of iface)) (restarted at salt iface) iface (record { managed = refl; settings = refl; settings6 = refl })
+    (itself iface)
 
 pub turned_is_same : (own : List Mac) (turn : Turn) (iface : Iface) → StepSame iface (iface_turned own turn iface)
 turned_is_same own turn iface =
@@ -207,6 +212,7 @@ pub all_opened : (up at salt : ℕ) (beginnings : List Beginning)
 all_opened up at salt [] = refl
 all_opened up at salt (b ∷ beginnings) = ap₂ (λ (m : Managed) (more : List Managed). m ∷ more) (opened_same up at salt b) (all_opened up at salt beginnings)
 
-pub all_turned : (own : List Mac) (turn : Turn) (ifaces : List Iface) → managed_in (map (λ (step : IfaceStep). step.iface) (map (iface_turned own turn) ifaces)) ≡ managed_in ifaces
+pub all_turned : (own : List Mac) (turn : Turn) (ifaces : List Iface)
+    → managed_in (map (λ (step : IfaceStep). step.iface) (map (iface_turned own turn) ifaces)) ≡ managed_in ifaces
 all_turned own turn [] = refl
 all_turned own turn (iface ∷ ifaces) = ap₂ (λ (m : Managed) (more : List Managed). m ∷ more) (turned_same own turn iface) (all_turned own turn ifaces)

@@ -51,7 +51,8 @@ lines_of (byte ∷ text) lines e =
     (λ t. fed byte text (lines_in text) (eqb-true byte 10 t) (lines_of text) lines (sym (ap by t) ∙ e))
     (λ f. longer byte text (lines_in text) f (lines_of text) lines (sym (ap by f) ∙ e))
 
-line_in_front : (line : Line) (rest : List ℕ) (lines : List Line) → Lacks 10 line → lines_in rest ≡ Some lines → lines_in (ended line ++ rest) ≡ Some (line ∷ lines)
+line_in_front : (line : Line) (rest : List ℕ) (lines : List Line) → Lacks 10 line → lines_in rest ≡ Some lines
+    → lines_in (ended line ++ rest) ≡ Some (line ∷ lines)
 line_in_front [] rest lines lacks e = ap (option_map (λ (ls : List Line). [] ∷ ls)) e
 line_in_front (byte ∷ line) rest lines lacks e =
     let parts = and_parts (not (eqb byte 10)) _ lacks in

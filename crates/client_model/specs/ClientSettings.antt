@@ -1,4 +1,5 @@
--- What the DHCPv4 client of an interface is told by the configuration, and whether it runs. `duid` is the DUID of the host.
+-- What the DHCPv4 client of an interface is told by the configuration, and whether it runs. `duid` is the DUID of the
+-- host.
 use Rattle.std.specs.Prelude.{ℕ, Bool, not, ◌&&◌, if◌then◌else◌, List, [], ◌∷◌, ◌++◌, filter, take, is_none}
 use Rattle.std.specs.Int.{w32, to_be_bytes}
 use Rattle.net_types.specs.declared.interface.IfSpec.{IfSpec}
@@ -18,7 +19,8 @@ runs_dhcp4 conf = not conf.nodhcp && not conf.ipv6only && is_none conf.address
 
 -- ---- what the client asks for
 
--- the codes that every client asks for, in order (RFC 2132, section 9.8; RFC 3442 wants classless routes before routers)
+-- the codes that every client asks for, in order (RFC 2132, section 9.8; RFC 3442 wants classless routes before
+-- routers)
 abbrev pub wanted_codes : List ℕ
 wanted_codes =
     SUBNET_MASK ∷ CLASSLESS_ROUTES ∷ ROUTERS ∷ DOMAIN_NAME_SERVERS ∷ DOMAIN_NAME ∷ BROADCAST_ADDRESS
@@ -27,7 +29,8 @@ wanted_codes =
 -- codes, each at its first place, without those that came before
 abbrev pub each_once : (before : List ℕ) → List ℕ → List ℕ
 each_once before [] = []
-each_once before (code ∷ codes) = if is_among before code then each_once before codes else code ∷ each_once (code ∷ before) codes
+each_once before (code ∷ codes) =
+    if is_among before code then each_once before codes else code ∷ each_once (code ∷ before) codes
 
 -- the most codes that are asked for
 abbrev pub most_codes : ℕ
@@ -35,7 +38,8 @@ most_codes = 64
 
 -- these, and those that are configured, without those that are refused
 unfoldable pub codes_of : (asked refused : List ℕ) → List ℕ
-codes_of asked refused = take most_codes (filter (λ code. not (is_among refused code)) (each_once [] (wanted_codes ++ asked)))
+codes_of asked refused =
+    take most_codes (filter (λ code. not (is_among refused code)) (each_once [] (wanted_codes ++ asked)))
 
 -- The client is known by its hardware address (RFC 2132, section 9.14), by what is configured, or by the DUID, with the
 -- interface's index as IAID (RFC 4361, section 6.1).

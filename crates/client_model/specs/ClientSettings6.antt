@@ -1,4 +1,5 @@
--- What the DHCPv6 client of an interface is told by the configuration, and whether it runs. `duid` is the DUID of the host.
+-- What the DHCPv6 client of an interface is told by the configuration, and whether it runs. `duid` is the DUID of the
+-- host.
 use Rattle.std.specs.Prelude.{ℕ, Bool, true, false, not, ◌&&◌, ◌||◌, List, [], ◌∷◌, map}
 use Rattle.std.specs.List.{list_any}
 use Rattle.v6_client.specs.declared.settings.IaAsk.{IaAsk}
@@ -22,7 +23,13 @@ abbrev pub ask_for : IaConf → IaAsk
 ask_for ia = record { kind = ia.kind; iaid = ia.iaid; hint = ia.hint }
 
 abbrev pub site6_of : Managed → Site6
-site6_of managed = record { iface = managed.spec; nodelay = managed.conf.nodelay; rapid = managed.conf.dhcp6.rapid; persistent = managed.conf.persistent }
+site6_of managed =
+    record {
+      iface = managed.spec;
+      nodelay = managed.conf.nodelay;
+      rapid = managed.conf.dhcp6.rapid;
+      persistent = managed.conf.persistent;
+    }
 
 abbrev pub settings6_of : (duid : List ℕ) → Managed → SettingsContent
 settings6_of duid managed = record { site = site6_of managed; duid = duid; asks = map ask_for managed.conf.dhcp6.ias }

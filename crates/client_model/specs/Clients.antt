@@ -27,7 +27,8 @@ use Rattle.client_model.specs.WantedRows.{wanted_rows}
 
 -- the client between two turns
 pub record Client : Type 0 where
-  -- the hardware addresses of all interfaces, managed or not, by which its own packets are known (RFC 5227, section 2.1.1)
+  -- the hardware addresses of all interfaces, managed or not, by which its own packets are known (RFC 5227, section
+  -- 2.1.1)
   pub own : List Mac
   -- its managed interfaces, in order of index
   pub ifaces : List Iface
@@ -68,7 +69,8 @@ joined own before steps = record {
 
 -- the opening, of one interface after another: `specs` are all interfaces, `beginnings` those that the client manages
 abbrev pub opening : List Beginning → (specs : List IfSpec) → Begin → ClientStep
-opening beginnings specs begin = joined (map (λ spec. spec.mac) specs) [] (map (opened begin.up (moment_of begin.at) begin.salt) beginnings)
+opening beginnings specs begin =
+    joined (map (λ spec. spec.mac) specs) [] (map (opened begin.up (moment_of begin.at) begin.salt) beginnings)
 
 abbrev pub steps_of : Turn → Client → List IfaceStep
 steps_of turn client = map (iface_turned client.own turn) client.ifaces

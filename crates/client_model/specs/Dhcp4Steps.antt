@@ -66,7 +66,8 @@ abbrev pub dhcp4_step : (at : ℕ) → Iface → Step4 → IfaceStep
 dhcp4_step at iface step = record {
   iface = after_dhcp4 at step iface;
   said = said_in step;
-  reports = map (λ news. record { before = iface; news = news; after = after_dhcp4 at step iface }) (lease_news step.news);
+  reports =
+      map (λ news. record { before = iface; news = news; after = after_dhcp4 at step iface }) (lease_news step.news);
 }
 
 -- a client that is off begins, where DHCPv4 runs

@@ -56,7 +56,9 @@ abbrev pub dhcp6_step : Iface → Turned6 → IfaceStep
 dhcp6_step iface turned = record {
   iface = after_dhcp6 turned iface;
   said = said6_in iface turned.out;
-  reports = map (λ news. record { before = iface; news = news; after = after_dhcp6 turned iface }) (lease6_news turned.out.news);
+  reports =
+      map (λ news. record { before = iface; news = news; after = after_dhcp6 turned iface })
+      (lease6_news turned.out.news);
 }
 
 -- a client that is off begins, where DHCPv6 runs

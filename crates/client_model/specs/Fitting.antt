@@ -39,4 +39,6 @@ AsksFit = (duid : List ℕ) (managed : Managed) → IsDuid duid → FitsManaged 
 
 -- The DUID of a host is one, whatever was read of its file: `managed` is the first of the interfaces.
 abbrev pub HostDuidFits : Type 0
-HostDuidFits = (managed : Managed) (others : List Managed) (read : Option Reading) → FitsMac managed.spec.mac → IsDuid (host_duid (managed ∷ others) read)
+HostDuidFits =
+    (managed : Managed) (others : List Managed) (read : Option Reading) → FitsMac managed.spec.mac
+    → IsDuid (host_duid (managed ∷ others) read)

@@ -36,19 +36,24 @@ hears_message at salt (Some heard) message6 iface = dhcp4_takes at salt (arrival
 hears_message at salt None message6 iface = hears_message6 at salt message6 iface
 
 -- an ARP packet, or a server's message
-abbrev pub hears_either : List Mac → (at salt : ℕ) → Option ArpView → Option HeardMessage → Option HeardMessage6 → Iface → IfaceStep
+abbrev pub hears_either : List Mac → (at salt : ℕ) → Option ArpView → Option HeardMessage → Option HeardMessage6 → Iface
+    → IfaceStep
 hears_either own at salt (Some arp) message message6 iface = hears_packet own at salt arp iface
 hears_either own at salt None message message6 iface = hears_message at salt message message6 iface
 
 abbrev pub hears : List Mac → (at salt : ℕ) → List ℕ → Iface → IfaceStep
 hears own at salt bytes iface =
-    hears_either own at salt (arp_heard bytes) (heard4_in iface.managed.spec.mac bytes) (heard6_in iface.managed.spec.mac bytes) iface
+    hears_either own at salt (arp_heard bytes) (heard4_in iface.managed.spec.mac bytes)
+    (heard6_in iface.managed.spec.mac bytes) iface
 
 -- what comes of an input that an interface takes
 abbrev pub taken : List Mac → (at salt : ℕ) → Event → List ℕ → Iface → IfaceStep
-taken own at salt (Frame index len) bytes iface = if index_of iface == index then hears own at salt bytes iface else silent iface
-taken own at salt (Carrier index up) bytes iface = if index_of iface == index then carried at salt up iface else silent iface
-taken own at salt (Duplicate index addr) bytes iface = if index_of iface == index then contested at salt addr iface else silent iface
+taken own at salt (Frame index len) bytes iface =
+    if index_of iface == index then hears own at salt bytes iface else silent iface
+taken own at salt (Carrier index up) bytes iface =
+    if index_of iface == index then carried at salt up iface else silent iface
+taken own at salt (Duplicate index addr) bytes iface =
+    if index_of iface == index then contested at salt addr iface else silent iface
 taken own at salt (Release index) bytes iface = if index_of iface == index then released at salt iface else silent iface
 taken own at salt (Rebind index) bytes iface = if index_of iface == index then rebound at salt iface else silent iface
 taken own at salt Stop bytes iface = halted at salt iface
@@ -59,8 +64,8 @@ taken own at salt End bytes iface = silent iface
 abbrev pub input_step : List Mac → (at salt : ℕ) → Event → List ℕ → Iface → IfaceStep
 input_step own at salt event bytes iface = if iface.stopped then silent iface else taken own at salt event bytes iface
 
--- a turn as the interfaces meet it: its moment, never before the last one's; its salt; which interfaces had a failed send
--- in the last turn; and its input with the bytes of a frame
+-- a turn as the interfaces meet it: its moment, never before the last one's; its salt; which interfaces had a failed
+-- send in the last turn; and its input with the bytes of a frame
 pub record Turn : Type 0 where
   pub at : ℕ
   pub salt : ℕ
@@ -71,4 +76,5 @@ pub record Turn : Type 0 where
 -- a failed send of the turn before, the ticks of its machines, and then the input
 abbrev pub iface_turned : List Mac → Turn → Iface → IfaceStep
 iface_turned own turn iface =
-    then_step (ticked turn.at turn.salt (unsent_in turn.unsent turn.at turn.salt iface)) (input_step own turn.at turn.salt turn.event turn.bytes)
+    then_step (ticked turn.at turn.salt (unsent_in turn.unsent turn.at turn.salt iface))
+    (input_step own turn.at turn.salt turn.event turn.bytes)

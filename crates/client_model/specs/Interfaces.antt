@@ -35,7 +35,8 @@ machines_drop at salt iface = then_step (then_step (drop_dhcp4 at salt iface) lo
 
 -- the machines stop
 abbrev pub machines_stop : Tell → (at salt : ℕ) → Iface → IfaceStep
-machines_stop tell at salt iface = then_step (then_step (stop_dhcp4 tell at salt iface) local_off) (stop_dhcp6 tell at salt)
+machines_stop tell at salt iface =
+    then_step (then_step (stop_dhcp4 tell at salt iface) local_off) (stop_dhcp6 tell at salt)
 
 -- ---- the opening
 
@@ -75,7 +76,8 @@ opened up at salt beginning =
 
 -- a frame of the interface couldn't be sent in the turn before
 abbrev pub restarted : (at salt : ℕ) → Iface → Iface
-restarted at salt iface = record iface { dhcp4 = unsent_step at salt iface.dhcp4; local = ll_restarts iface.local at salt }
+restarted at salt iface =
+    record iface { dhcp4 = unsent_step at salt iface.dhcp4; local = ll_restarts iface.local at salt }
 
 abbrev pub unsent_in : (set at salt : ℕ) → Iface → Iface
 unsent_in set at salt iface = if is_in set (index_of iface) then restarted at salt iface else iface
@@ -93,7 +95,8 @@ machine_ticked Dhcp6 at salt iface = tick_dhcp6 at salt iface
 -- all machines tick in order, due or not
 abbrev pub ticked : (at salt : ℕ) → Iface → IfaceStep
 ticked at salt iface =
-    then_step (then_step (machine_ticked Dhcp4 at salt iface) (machine_ticked LinkLocal at salt)) (machine_ticked Dhcp6 at salt)
+    then_step (then_step (machine_ticked Dhcp4 at salt iface) (machine_ticked LinkLocal at salt))
+    (machine_ticked Dhcp6 at salt)
 
 -- the earliest moment at which a machine of the interface is due
 abbrev pub iface_due : Iface → Option ℕ
@@ -132,4 +135,5 @@ tells news iface = with_news news iface (silent iface)
 -- nothing is in force after a stop, which is told last
 abbrev pub halted : (at salt : ℕ) → Iface → IfaceStep
 halted at salt iface =
-    then_step (machines_stop (told_at_stop iface.managed.conf) at salt (record iface { stopped = true })) (tells Stopped)
+    then_step (machines_stop (told_at_stop iface.managed.conf) at salt (record iface { stopped = true }))
+    (tells Stopped)

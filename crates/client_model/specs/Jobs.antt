@@ -39,7 +39,8 @@ script_path hooks.Nothing = None
 script_path hooks.Default = Some []
 script_path (hooks.At path) = Some path
 
-abbrev pub situation_of : Reason → Managed → (up : Bool) → (held_before held_now : HeldContent) → (script : List ℕ) → SituationContent
+abbrev pub situation_of : Reason → Managed → (up : Bool) → (held_before held_now : HeldContent) → (script : List ℕ)
+    → SituationContent
 situation_of reason managed up held_before held_now script = record {
   reason = reason;
   interface = managed.spec;
@@ -54,7 +55,8 @@ situation_of reason managed up held_before held_now script = record {
 -- the job of an interface's event, where hooks are run; `up` is whether it has carrier then
 abbrev pub jobs_of : Reason → Managed → (up : Bool) → (held_before held_now : HeldContent) → List Job
 jobs_of reason managed up held_before held_now =
-    map (λ script. job_of_situation (situation_of reason managed up held_before held_now script)) (option_to_list (script_path managed.conf.hooks.script))
+    map (λ script. job_of_situation (situation_of reason managed up held_before held_now script))
+    (option_to_list (script_path managed.conf.hooks.script))
 
 -- ---- what is held
 
@@ -139,16 +141,20 @@ static_told managed up (Some net) = own reason.StaticLine managed up Nothing (Ad
 -- of news, with the interface before and after it
 abbrev pub told_of : News → (before after : Iface) → List Told
 told_of Opened before after = own reason.Preinit after.managed after.up Nothing Nothing
-told_of CarrierCame before after = own reason.Carrier after.managed true Nothing Nothing ++ static_told after.managed true after.managed.conf.address
+told_of CarrierCame before after =
+    own reason.Carrier after.managed true Nothing Nothing ++ static_told after.managed true after.managed.conf.address
 told_of CarrierWent before after = own reason.NoCarrier after.managed false Nothing Nothing
 told_of Released before after = []
 told_of Stopped before after = own reason.Stopped after.managed after.up Nothing Nothing
-told_of (Lease4 news) before after = own_if (reason4 news) after.managed after.up (leased4 (held_of before.dhcp4)) (leased4 (held_of after.dhcp4))
+told_of (Lease4 news) before after =
+    own_if (reason4 news) after.managed after.up (leased4 (held_of before.dhcp4)) (leased4 (held_of after.dhcp4))
 told_of (Lease6 news) before after =
-    own_if (reason6 news) after.managed after.up (leased6 (dhcp6.held_of before.dhcp6)) (leased6 (dhcp6.held_of after.dhcp6))
+    own_if (reason6 news) after.managed after.up (leased6 (dhcp6.held_of before.dhcp6))
+    (leased6 (dhcp6.held_of after.dhcp6))
     ++ shares_at news after.managed.conf.dhcp6.shares (dhcp6.held_of after.dhcp6)
 told_of Timeout before after = own reason.Timeout after.managed after.up Nothing Nothing
-told_of LocalGained before after = own reason.Ipv4ll after.managed after.up Nothing (local_held (held_in after.local.state))
+told_of LocalGained before after =
+    own reason.Ipv4ll after.managed after.up Nothing (local_held (held_in after.local.state))
 told_of (LocalLost ip) before after = own reason.Expire after.managed after.up (Address4 (local_net ip)) Nothing
 
 abbrev pub told_by : Report → List Told
@@ -158,7 +164,8 @@ told_by report = told_of report.news report.before report.after
 abbrev pub told_in : IfaceStep → List Told
 told_in step = flat_map told_by step.reports
 
--- ---- the jobs: the hook of the interface that shares a prefix is told of its address, with the carrier that it has then
+-- ---- the jobs: the hook of the interface that shares a prefix is told of its address, with the carrier that it has
+-- then
 
 abbrev pub shared_jobs : (net : Net6) → Option Iface → List Job
 shared_jobs net None = []
@@ -168,8 +175,10 @@ abbrev pub jobs_among : List Iface → Told → List Job
 jobs_among ifaces (Own job) = job ∷ []
 jobs_among ifaces (Shared number net) = shared_jobs net (find (λ iface. index_of iface == number) ifaces)
 
--- Of steps of interfaces one after another: those before are as their steps left them, those after (`coming`) as they were.
+-- Of steps of interfaces one after another: those before are as their steps left them, those after (`coming`) as they
+-- were.
 abbrev pub jobs_along : (gone coming : List Iface) → List IfaceStep → List Job
 jobs_along gone coming [] = []
 jobs_along gone coming (step ∷ steps) =
-    flat_map (jobs_among (gone ++ step.iface ∷ drop 1 coming)) (told_in step) ++ jobs_along (gone ++ step.iface ∷ []) (drop 1 coming) steps
+    flat_map (jobs_among (gone ++ step.iface ∷ drop 1 coming)) (told_in step)
+    ++ jobs_along (gone ++ step.iface ∷ []) (drop 1 coming) steps

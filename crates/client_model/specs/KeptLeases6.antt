@@ -1,4 +1,5 @@
--- The DHCPv6 lease with which an interface begins: that of its file, where the file's text is a lease of this interface.
+-- The DHCPv6 lease with which an interface begins: that of its file, where the file's text is a lease of this
+-- interface.
 use Rattle.std.specs.Prelude.{◌≡◌, ℕ, if◌then◌else◌, List, Option, Some, None, option_and_then}
 use Rattle.net_types.specs.declared.interface.IfSpec.{IfSpec}
 use Rattle.net_types.specs.FirstBadLine.{IsSpelled}

@@ -14,7 +14,9 @@ given_rows ifaces = flat_map iface_rows ifaces
 
 -- No two routes that are kept have one destination, length and metric.
 abbrev pub KeptUnlike : Type 0
-KeptUnlike = (ifaces : List Iface) (a b : HostRow) → has_row (wanted_rows ifaces) a ≡ true → has_row (wanted_rows ifaces) b ≡ true
+KeptUnlike =
+    (ifaces : List Iface) (a b : HostRow) → has_row (wanted_rows ifaces) a ≡ true
+    → has_row (wanted_rows ifaces) b ≡ true
     → same_target a b ≡ true → a ≡ b
 
 -- a row that is kept in place of another
@@ -25,9 +27,13 @@ pub record Keeper (ifaces : List Iface) (row : HostRow) : Type 0 where
 
 -- Each row that some interface gives and that isn't kept has one that is kept in its place.
 abbrev pub DroppedHaveKeeper : Type 0
-DroppedHaveKeeper = (ifaces : List Iface) (row : HostRow) → has_row (given_rows ifaces) row ≡ true → has_row (wanted_rows ifaces) row ≡ false
+DroppedHaveKeeper =
+    (ifaces : List Iface) (row : HostRow) → has_row (given_rows ifaces) row ≡ true
+    → has_row (wanted_rows ifaces) row ≡ false
     → Keeper ifaces row
 
 -- Every address stays.
 abbrev pub AddressesStay : Type 0
-AddressesStay = (ifaces : List Iface) (index : IfIndex) (net : Net) → has_row (wanted_rows ifaces) (Addr index net) ≡ has_row (given_rows ifaces) (Addr index net)
+AddressesStay =
+    (ifaces : List Iface) (index : IfIndex) (net : Net)
+    → has_row (wanted_rows ifaces) (Addr index net) ≡ has_row (given_rows ifaces) (Addr index net)

@@ -29,7 +29,8 @@ fallback_of false = GoOff
 -- Where DHCPv4 runs, a lease is waited for, and then the timeout is told; with a timeout of 0 for ever.
 abbrev pub armed_for_lease : IfConf → (at : ℕ) → LinkLocal → LinkLocal
 armed_for_lease conf at local =
-    if conf.timeout == 0 then local else ll_armed local (at + SECOND * conf.timeout) ForLease (fallback_of (chooses_local conf))
+    if conf.timeout == 0 then local
+    else ll_armed local (at + SECOND * conf.timeout) ForLease (fallback_of (chooses_local conf))
 
 -- Else link-local is due at once.
 abbrev pub armed : IfConf → (at : ℕ) → LinkLocal → LinkLocal
@@ -52,7 +53,9 @@ abbrev pub local_step : Iface → LlStep → IfaceStep
 local_step iface step = record {
   iface = record iface { local = step.ll };
   said = map Arp (option_to_list step.out.arp);
-  reports = map (λ news. record { before = iface; news = news; after = record iface { local = step.ll } }) (local_news step.out.news);
+  reports =
+      map (λ news. record { before = iface; news = news; after = record iface { local = step.ll } })
+      (local_news step.out.news);
 }
 
 abbrev pub tick_local : (at salt : ℕ) → Iface → IfaceStep

@@ -24,8 +24,8 @@ is_for index End = true
 abbrev pub own_turn : ℕ → Turn → Turn
 own_turn index turn = if is_for index turn.event then turn else record turn { event = Quiet; bytes = [] }
 
--- Two turns are one to an interface: they agree on the moment, the salt, whether a send of its own failed in the turn before,
--- and on its own input.
+-- Two turns are one to an interface: they agree on the moment, the salt, whether a send of its own failed in the turn
+-- before, and on its own input.
 pub record IsOne (index : ℕ) (a b : Turn) : Type 0 where
   pub at : a.at ≡ b.at
   pub salt : a.salt ≡ b.salt
@@ -46,4 +46,6 @@ pub record RunAlike (own : List Mac) (iface : Iface) (turns others : List Turn) 
 
 -- Where two runs of turns are one to an interface, turn by turn, it runs alike.
 abbrev pub OwnInputsCount : Type 0
-OwnInputsCount = (own : List Mac) (iface : Iface) (turns others : List Turn) → AreOne (index_of iface) turns others → RunAlike own iface turns others
+OwnInputsCount =
+    (own : List Mac) (iface : Iface) (turns others : List Turn) → AreOne (index_of iface) turns others
+    → RunAlike own iface turns others

@@ -53,7 +53,8 @@ part_of managed family servers names = record {
 
 abbrev pub names4 : ResolverSettings → List ValueContent → List (List ℕ)
 names4 settings values =
-    names_of (first_said settings.search (read_as search_in DOMAIN_SEARCH values)) (first_said settings.domain (read_as text_in DOMAIN_NAME values))
+    names_of (first_said settings.search (read_as search_in DOMAIN_SEARCH values))
+    (first_said settings.domain (read_as text_in DOMAIN_NAME values))
 
 abbrev pub servers4 : ResolverSettings → List ValueContent → List Server
 servers4 settings values = map server.V4 (first_said settings.servers (read_as addrs_in DOMAIN_NAME_SERVERS values))
@@ -64,7 +65,8 @@ values_held (Some lease) = lease.values
 
 abbrev pub part4_with : Managed → Option LeaseContent → PartContent
 part4_with managed lease =
-    part_of managed family.V4 (servers4 managed.conf.resolver (values_held lease)) (names4 managed.conf.resolver (values_held lease))
+    part_of managed family.V4 (servers4 managed.conf.resolver (values_held lease))
+    (names4 managed.conf.resolver (values_held lease))
 
 -- there is a part where a lease is held, or a static address is in force
 abbrev pub has_part4 : Iface → Bool
@@ -77,7 +79,8 @@ parts4 iface = if has_part4 iface then part4_with iface.managed (held_of iface.d
 
 abbrev pub part6_with : Managed → Lease6Content → PartContent
 part6_with managed lease =
-    part_of managed family.V6 (map server.V6 (read_as dns6_in DNS_SERVERS lease.values)) (read_as search6_in DOMAIN_LIST lease.values)
+    part_of managed family.V6 (map server.V6 (read_as dns6_in DNS_SERVERS lease.values))
+    (read_as search6_in DOMAIN_LIST lease.values)
 
 abbrev pub parts6 : Managed → Option Lease6Content → List PartContent
 parts6 managed None = []

@@ -25,7 +25,8 @@ abbrev pub client_run : Client → List Turn → Client
 client_run client [] = client
 client_run client (turn ∷ before) = (client_turned turn (client_run client before)).client
 
--- The interfaces of the client go on as each would alone, and its frames in a turn are theirs, one interface after another.
+-- The interfaces of the client go on as each would alone, and its frames in a turn are theirs, one interface after
+-- another.
 pub record RunsApart (client : Client) (turn : Turn) (before : List Turn) : Type 0 where
   pub ifaces : (client_run client before).ifaces ≡ map (λ iface. iface_run client.own iface before) client.ifaces
   pub sends : (client_turned turn (client_run client before)).sends
@@ -47,12 +48,16 @@ abbrev pub IsQuietElsewhere : Type 0
 IsQuietElsewhere = (own : List Mac) (turn : Turn) (iface : Iface) → NamesOther (index_of iface) turn.event
     → iface_turned own turn iface ≡ iface_turned own (record turn { event = Quiet; bytes = [] }) iface
 
--- A turn of an interface of which nothing is new leaves its rows, what it tells the resolver, and the DHCPv6 lease that it keeps;
--- where it says nothing either, the DHCPv4 lease. The DHCPv4 lease that it keeps after any such turn is the one that it kept before.
+-- A turn of an interface of which nothing is new leaves its rows, what it tells the resolver, and the DHCPv6 lease that
+-- it keeps; where it says nothing either, the DHCPv4 lease. The DHCPv4 lease that it keeps after any such turn is the
+-- one that it kept before.
 pub record KeepsInQuiet (own : List Mac) (turn : Turn) (iface : Iface) : Type 0 where
-  pub rows : news_of (iface_turned own turn iface) ≡ [] → iface_rows (iface_turned own turn iface).iface ≡ iface_rows iface
-  pub parts : news_of (iface_turned own turn iface) ≡ [] → iface_parts (iface_turned own turn iface).iface ≡ iface_parts iface
-  pub kept6 : news_of (iface_turned own turn iface) ≡ [] → (iface_turned own turn iface).iface.dhcp6.kept ≡ iface.dhcp6.kept
+  pub rows : news_of (iface_turned own turn iface) ≡ []
+      → iface_rows (iface_turned own turn iface).iface ≡ iface_rows iface
+  pub parts : news_of (iface_turned own turn iface) ≡ []
+      → iface_parts (iface_turned own turn iface).iface ≡ iface_parts iface
+  pub kept6 : news_of (iface_turned own turn iface) ≡ []
+      → (iface_turned own turn iface).iface.dhcp6.kept ≡ iface.dhcp6.kept
   pub kept4 : news_of (iface_turned own turn iface) ≡ [] → (iface_turned own turn iface).said ≡ []
       → (iface_turned own turn iface).iface.dhcp4.kept ≡ iface.dhcp4.kept
   pub same4 : news_of (iface_turned own turn iface) ≡ [] → is_some (iface_turned own turn iface).iface.dhcp4.kept ≡ true

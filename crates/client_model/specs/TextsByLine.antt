@@ -10,4 +10,5 @@ with_byte byte (Some (line ∷ lines)) = Some ((byte ∷ line) ∷ lines)
 
 abbrev pub lines_in : List ℕ → Option (List Line)
 lines_in [] = Some []
-lines_in (byte ∷ text) = if byte == 10 then option_map (λ lines. [] ∷ lines) (lines_in text) else with_byte byte (lines_in text)
+lines_in (byte ∷ text) =
+    if byte == 10 then option_map (λ lines. [] ∷ lines) (lines_in text) else with_byte byte (lines_in text)

@@ -124,7 +124,8 @@ lease_routes outlet net None router = router_routes outlet net router
 abbrev pub lease_rows : Outlet → (router : Option Ip4) → Option LeaseContent → List HostRow
 lease_rows outlet router None = []
 lease_rows outlet router (Some lease) =
-    address_rows outlet lease.net ++ lease_routes outlet lease.net (classless_in lease.values) (router_for router lease.values)
+    address_rows outlet lease.net
+    ++ lease_routes outlet lease.net (classless_in lease.values) (router_for router lease.values)
 
 -- a link-local address is one of 169.254/16 (RFC 3927, section 2.1)
 abbrev pub local_net : Ip4 → Net4
@@ -153,8 +154,8 @@ share_rows prefix share = subnet_rows share.outlet (subnet_in prefix share.share
 abbrev pub shares_of : (iaid : ℕ) → List ShareConf → List ShareConf
 shares_of iaid shares = filter (λ share. share.iaid == iaid) shares
 
--- ---- a DHCPv6 lease: each address by itself (RFC 8415, section 18.2.10.1, leaves it to routers to tell the network); each
--- prefix is refused where no longer route leads into it (RFC 7084, WPD-5), and its shares have their subnets
+-- ---- a DHCPv6 lease: each address by itself (RFC 8415, section 18.2.10.1, leaves it to routers to tell the network);
+-- each prefix is refused where no longer route leads into it (RFC 7084, WPD-5), and its shares have their subnets
 
 abbrev pub item_rows : Outlet → List ShareConf → IaKind → Item6 → List HostRow
 item_rows outlet shares Na item = Addr outlet.iface (Family.V6 item.net) ∷ []

@@ -18,7 +18,8 @@ ghost use Rattle.client_model.specs.Runs.{RunsApart, IsQuietElsewhere, KeepsInQu
 ghost use Rattle.client_model.specs.OwnInputs.{OwnInputsCount};
 ghost use Rattle.client_model.specs.KeptRows.{KeptUnlike, DroppedHaveKeeper, AddressesStay};
 
-/// Law: over every list of turns each interface runs as it would alone, and the client's frames are theirs, one interface after another.
+/// Law: over every list of turns each interface runs as it would alone, and the client's frames are theirs, one
+/// interface after another.
 pub fn interfaces_run_apart()
     ensures { (client : Client) (turn : Turn) (before : List Turn) → RunsApart client turn before }
 {}
@@ -28,13 +29,14 @@ pub fn other_inputs_are_quiet()
     ensures { IsQuietElsewhere }
 {}
 
-/// Law: over every list of turns, an interface and its frames come of what is its own alone: the moments and salts, the inputs
-/// that are for it, and which frames of its own failed.
+/// Law: over every list of turns, an interface and its frames come of what is its own alone: the moments and salts, the
+/// inputs that are for it, and which frames of its own failed.
 pub fn own_inputs_alone_count()
     ensures { OwnInputsCount }
 {}
 
-/// Law: what the client of a managed interface says of itself fits the options of its messages, however much is configured.
+/// Law: what the client of a managed interface says of itself fits the options of its messages, however much is
+/// configured.
 pub fn what_is_asked_fits()
     ensures { AsksFit }
 {}
@@ -44,21 +46,22 @@ pub fn the_hosts_duid_fits()
     ensures { HostDuidFits }
 {}
 
-/// Law of the options that a client asks for (RFC 2132, section 9.8): every client's and those configured, each once, none that
-/// is refused; and all of these, where they are fewer than 64.
+/// Law of the options that a client asks for (RFC 2132, section 9.8): every client's and those configured, each once,
+/// none that is refused; and all of these, where they are fewer than 64.
 pub fn options_are_asked_for_rightly()
     ensures { (asked refused : List ℕ) → AsksRightly asked refused }
 {}
 
-/// Law of the rows that these laws speak of: those that the interfaces want are on them, in row order, each once, where the shares
-/// of their prefixes are theirs; and so is every table that was put in row order.
+/// Law of the rows that these laws speak of: those that the interfaces want are on them, in row order, each once, where
+/// the shares of their prefixes are theirs; and so is every table that was put in row order.
 pub fn wanted_rows_can_be_wanted()
-    ensures wantable { (ifaces : List Iface) → SharesAreManaged (map (λ iface. iface.managed) ifaces) → Wantable (map (λ iface. iface.managed) ifaces) (wanted_rows ifaces) }
+    ensures wantable { (ifaces : List Iface) → SharesAreManaged (map (λ iface. iface.managed) ifaces)
+        → Wantable (map (λ iface. iface.managed) ifaces) (wanted_rows ifaces) }
     ensures in_order { (rows : List HostRow) → InRowOrder (in_row_order rows) }
 {}
 
-/// Law of routes that several interfaces give: of those with one destination, length and metric one is kept, each that isn't
-/// has one that is in its place, and no address is dropped.
+/// Law of routes that several interfaces give: of those with one destination, length and metric one is kept, each that
+/// isn't has one that is in its place, and no address is dropped.
 pub fn kept_rows_are_unlike()
     ensures unlike { KeptUnlike }
     ensures keepers { DroppedHaveKeeper }
@@ -75,8 +78,9 @@ pub fn kept_texts_are_leases6()
     ensures { (text : List ℕ) (lease : Lease6Content) → IsReading6 text lease }
 {}
 
-/// Law: an interface's rows, what it tells the resolver, and the DHCPv6 lease that it keeps change only in turns of which
-/// something is new, and the DHCPv4 lease that it keeps only in those or where it says something, and then none is kept any more.
+/// Law: an interface's rows, what it tells the resolver, and the DHCPv6 lease that it keeps change only in turns of
+/// which something is new, and the DHCPv4 lease that it keeps only in those or where it says something, and then none
+/// is kept any more.
 pub fn rows_and_leases_stay_in_quiet_turns()
     ensures { (own : List Mac) (turn : Turn) (iface : Iface) → KeepsInQuiet own turn iface }
 {}

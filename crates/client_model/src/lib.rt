@@ -1,4 +1,5 @@
-//! What the client is over its interfaces: what a turn makes of each, the frames that they send, the rows that they want.
+//! What the client is over its interfaces: what a turn makes of each, the frames that they send, the rows that they
+//! want.
 #![tactic(auto)]
 
 mod asking;

@@ -18,7 +18,8 @@ use Rattle.conf_directives.specs.SayLaws.{CodesFit, FitsCode}
 abbrev is_code : ℕ → Bool
 is_code number = nat_lt 0 number && nat_lt number 255
 
-named_passes : {X : Type 0} (test : X → Bool) (rows : List (List ℕ × X)) (word : List ℕ) → list_all (λ row. test row.1) rows ≡ true → IfSome (named rows word) (λ x. test x ≡ true)
+named_passes : {X : Type 0} (test : X → Bool) (rows : List (List ℕ × X)) (word : List ℕ) → list_all (λ row. test row.1) rows ≡ true
+    → IfSome (named rows word) (λ x. test x ≡ true)
 named_passes test [] word all = tt
 named_passes test (row ∷ rows) word all =
     let both = and_parts _ _ all in
@@ -30,12 +31,15 @@ named_passes test (row ∷ rows) word all =
 pub number_below : (limit : ℕ) (text : List ℕ) → IfSome (number_at limit text) (λ number. nat_lt number limit ≡ true)
 unfolding number_at
 number_below limit text =
-    elim (is_numeral text && nat_lt (digits_value 10 text) limit) as (λ b. (is_numeral text && nat_lt (digits_value 10 text) limit) ≡ b → IfSome (if b then Some (digits_value 10 text) else None) (λ number. nat_lt number limit ≡ true)) [
+    elim (is_numeral text && nat_lt (digits_value 10 text) limit) as
+    (λ b. (is_numeral text && nat_lt (digits_value 10 text) limit) ≡ b
+    → IfSome (if b then Some (digits_value 10 text) else None) (λ number. nat_lt number limit ≡ true)) [
       | true ↦ λ e. (and_parts _ _ e).1
       | false ↦ λ e. tt
     ] refl
 
-guarded_code : (found : Option ℕ) → IfSome found (λ number. nat_lt number 255 ≡ true) → IfSome (guarded (λ number. nat_lt 0 number) found) (λ number. is_code number ≡ true)
+guarded_code : (found : Option ℕ) → IfSome found (λ number. nat_lt number 255 ≡ true)
+    → IfSome (guarded (λ number. nat_lt 0 number) found) (λ number. is_code number ≡ true)
 guarded_code None below = tt
 guarded_code (Some number) below =
     elim (nat_lt 0 number) as (λ b. nat_lt 0 number ≡ b → IfSome (if b then Some number else None) (λ number. is_code number ≡ true)) [
@@ -72,20 +76,23 @@ other_fits Asked word =
 other_fits Refused word = tt
 other_fits Required word = tt
 
-name_fits : (list : CodeList) (word : List ℕ) (found : Option ℕ) → IfSome found (λ number. is_code number ≡ true) → IfSome (taken_code (name_in list word found)) (FitsCode list)
+name_fits : (list : CodeList) (word : List ℕ) (found : Option ℕ) → IfSome found (λ number. is_code number ≡ true)
+    → IfSome (taken_code (name_in list word found)) (FitsCode list)
 name_fits list word None code = other_fits list word
 name_fits list word (Some number) code = code_fits list number code
 
 word_fits : (list : CodeList) (word : List ℕ) → IfSome (taken_code (option_word list word)) (FitsCode list)
 word_fits list word =
-    elim (list_all is_ascii_digit word) as (λ b. IfSome (taken_code (if b then number_in list (code_at word) else name_in list word (named option_rows word))) (FitsCode list)) [
+    elim (list_all is_ascii_digit word) as
+    (λ b. IfSome (taken_code (if b then number_in list (code_at word) else name_in list word (named option_rows word))) (FitsCode list)) [
       | true ↦ number_fits list (code_at word) (guarded_code (number_at 255 word) (number_below 255 word))
       | false ↦ name_fits list word (named option_rows word) (named_passes is_code option_rows word refl)
     ]
 
 -- ---- words
 
-one_more : (list : CodeList) (found : Option ℕ) (others : List ℕ) → IfSome found (FitsCode list) → AllByRecursion (FitsCode list) others → AllByRecursion (FitsCode list) (cons_option found others)
+one_more : (list : CodeList) (found : Option ℕ) (others : List ℕ) → IfSome found (FitsCode list) → AllByRecursion (FitsCode list) others
+    → AllByRecursion (FitsCode list) (cons_option found others)
 one_more list None others fits all = all
 one_more list (Some number) others fits all = (fits, all)
 

@@ -10,7 +10,8 @@ use Rattle.conf_directives.specs.Shares.{asked, hint_at, id_at, len_at, share_by
 use Rattle.conf_directives.specs.SayLaws.{FitsAsked, FitsLine, HintsFit, SharesFit}
 use Rattle.conf_directives.proofs.CodeLaws.{number_below}
 
-pub bound : {X Y : Type 0} (Fits : Y → Type 0) (found : Option X) (next : X → Option Y) → ((x : X) → found ≡ Some x → IfSome (next x) Fits) → IfSome (found >>= next) Fits
+pub bound : {X Y : Type 0} (Fits : Y → Type 0) (found : Option X) (next : X → Option Y) → ((x : X) → found ≡ Some x → IfSome (next x) Fits)
+    → IfSome (found >>= next) Fits
 bound Fits None next all = tt
 bound Fits (Some x) next all = all x refl
 

@@ -42,11 +42,13 @@ flips one other = ap not (same_bool (go_together one other) (go_together other o
 distinct_of : (shares : List Share) → ObeyRules shares → IsDistinct clash shares
 distinct_of shares obeys =
     IsDistinct-from_apart clash shares
-    (λ i j d below inside. not_from_true _ (together (get_or shares i d) (get_or shares j d) (obeys.one_length i j d below inside) (obeys.unlike i j d below inside)))
+    (λ i j d below inside. not_from_true _
+    (together (get_or shares i d) (get_or shares j d) (obeys.one_length i j d below inside) (obeys.unlike i j d below inside)))
 
 obeys_of : (shares : List Share) → IsDistinct clash shares → All (λ share. IsTrue (has_room share.hint share)) shares → ObeyRules shares
 obeys_of shares distinct room = record {
-  one_length = λ i j d below inside. (apart (get_or shares i d) (get_or shares j d) (not-false _ (apart_from_distinct clash shares i j d distinct below inside))).0;
+  one_length =
+      λ i j d below inside. (apart (get_or shares i d) (get_or shares j d) (not-false _ (apart_from_distinct clash shares i j d distinct below inside))).0;
   unlike = λ i j d below inside. (apart (get_or shares i d) (get_or shares j d) (not-false _ (apart_from_distinct clash shares i j d distinct below inside))).1;
   room = room;
 }
@@ -102,12 +104,14 @@ neighbours_of shares plan = λ i j d next inside.
       room_other = obeys.room j d inside;
     })
 
-lengths : (shares : List Share) → NeighboursFit shares (length shares) → (d : Share) (j : ℕ) → j < length shares → (get_or shares 0 d).len ≡ (get_or shares j d).len
+lengths : (shares : List Share) → NeighboursFit shares (length shares) → (d : Share) (j : ℕ) → j < length shares
+    → (get_or shares 0 d).len ≡ (get_or shares j d).len
 lengths shares fit d zero inside = refl
 lengths shares fit d (suc j) inside =
     lengths shares fit d j (omega (arith, inside)) ∙ (pair_fits (get_or shares j d) (get_or shares (suc j) d) (fit j (suc j) d (omega arith) inside)).same
 
-unlike_ids : (shares : List Share) → IsNonDecreasingBy (λ share. share.sla) shares → NeighboursFit shares (length shares) → AllPairs (λ one other. one.sla ≢ other.sla) shares
+unlike_ids : (shares : List Share) → IsNonDecreasingBy (λ share. share.sla) shares → NeighboursFit shares (length shares)
+    → AllPairs (λ one other. one.sla ≢ other.sla) shares
 unlike_ids shares rising fit = λ i j d below inside.
     let before : ℕ = j - 1 in
     let next : j ≡ before + 1 = omega (arith, below) in
@@ -119,11 +123,13 @@ unlike_ids shares rising fit = λ i j d below inside.
     let unlike = (pair_fits (get_or shares before d) (get_or shares j d) (fit before j d next inside)).unlike in
     λ same. unlike (omega (arith, first, second, same))
 
-rooms : (shares : List Share) → 2 ≤ length shares → NeighboursFit shares (length shares) → (k : ℕ) (d : Share) → k < length shares → has_room (get_or shares k d).hint (get_or shares k d) ≡ true
+rooms : (shares : List Share) → 2 ≤ length shares → NeighboursFit shares (length shares) → (k : ℕ) (d : Share) → k < length shares
+    → has_room (get_or shares k d).hint (get_or shares k d) ≡ true
 rooms shares some fit zero d inside = (pair_fits (get_or shares 0 d) (get_or shares 1 d) (fit 0 1 d (omega arith) (omega (arith, some)))).room_one
 rooms shares some fit (suc k) d inside = (pair_fits (get_or shares k d) (get_or shares (suc k) d) (fit k (suc k) d (omega arith) inside)).room_other
 
-pub plan_of_neighbours : (shares : List Share) → IsNonDecreasingBy (λ share. share.sla) shares → 2 ≤ length shares → NeighboursFit shares (length shares) → is_plan shares ≡ true
+pub plan_of_neighbours : (shares : List Share) → IsNonDecreasingBy (λ share. share.sla) shares → 2 ≤ length shares → NeighboursFit shares (length shares)
+    → is_plan shares ≡ true
 plan_of_neighbours shares rising some fit =
     (plans_obey shares).1 (record {
       one_length = λ i j d below inside. sym (lengths shares fit d i (omega (arith, below, inside))) ∙ lengths shares fit d j inside;
@@ -133,14 +139,17 @@ plan_of_neighbours shares rising some fit =
 
 -- ---- the walk over neighbours
 
-here : (shares : List Share) (place j : ℕ) (d e : Share) → 1 ≤ place → place < length shares → j ≡ place → is_plan (pair shares d (place - 1) place) ≡ true → is_plan (pair shares e (j - 1) j) ≡ true
+here : (shares : List Share) (place j : ℕ) (d e : Share) → 1 ≤ place → place < length shares → j ≡ place → is_plan (pair shares d (place - 1) place) ≡ true
+    → is_plan (pair shares e (j - 1) j) ≡ true
 here shares place j d e some inside at fits =
     let before : get_or shares (place - 1) e ≡ get_or shares (place - 1) d = get_or_default shares (place - 1) e d (omega (arith, some, inside)) in
     let last : get_or shares place e ≡ get_or shares place d = get_or_default shares place e d inside in
-    let moved : is_plan (pair shares e (place - 1) place) ≡ true = ap (λ one. is_plan (one ∷ get_or shares place e ∷ [])) before ∙ (ap (λ other. is_plan (get_or shares (place - 1) d ∷ other ∷ [])) last ∙ fits) in
+    let moved : is_plan (pair shares e (place - 1) place) ≡ true =
+    ap (λ one. is_plan (one ∷ get_or shares place e ∷ [])) before ∙ (ap (λ other. is_plan (get_or shares (place - 1) d ∷ other ∷ [])) last ∙ fits) in
     subst (λ k. is_plan (pair shares e (k - 1) k) ≡ true) (sym at) moved
 
-pub one_more : (shares : List Share) (place : ℕ) (d : Share) → 1 ≤ place → place < length shares → NeighboursFit shares place → is_plan (pair shares d (place - 1) place) ≡ true → NeighboursFit shares (place + 1)
+pub one_more : (shares : List Share) (place : ℕ) (d : Share) → 1 ≤ place → place < length shares → NeighboursFit shares place
+    → is_plan (pair shares d (place - 1) place) ≡ true → NeighboursFit shares (place + 1)
 one_more shares place d some inside fit fits = λ i j e next below.
     let before : i ≡ j - 1 = omega (arith, next) in
     elim (eqb j place) as (λ b. eqb j place ≡ b → is_plan (pair shares e i j) ≡ true) [
@@ -150,7 +159,8 @@ one_more shares place d some inside fit fits = λ i j e next below.
           fit i j e next (omega (arith, below, other))
     ] refl
 
-pub none_more : (shares : List Share) (place : ℕ) (d : Share) → 1 ≤ place → place < length shares → is_plan (pair shares d (place - 1) place) ≡ false → false ≡ is_plan shares
+pub none_more : (shares : List Share) (place : ℕ) (d : Share) → 1 ≤ place → place < length shares → is_plan (pair shares d (place - 1) place) ≡ false
+    → false ≡ is_plan shares
 none_more shares place d some inside clashes =
     elim (is_plan shares) as (λ b. is_plan shares ≡ b → false ≡ b) [
       | true ↦ λ plan.

@@ -37,7 +37,8 @@ one_static about one other (inl first) (inr second) = absurd (second.0 first.0 f
 one_static about one other (inr first) (inl second) = absurd (first.0 second.0 second.1)
 one_static about one other (inr first) (inr second) = first.1 ∙ sym second.1
 
-one_named : (name : Option DirectiveName) (word about : List ℕ) (one other : Option SaidContent) → SaysNamed name word about one → SaysNamed name word about other → one ≡ other
+one_named : (name : Option DirectiveName) (word about : List ℕ) (one other : Option SaidContent) → SaysNamed name word about one
+    → SaysNamed name word about other → one ≡ other
 one_named None word about one other first second = first ∙ sym second
 one_named (Some (names.Flag name)) word about one other first second = first ∙ sym second
 one_named (Some names.Duid) word about one other first second = first ∙ sym second

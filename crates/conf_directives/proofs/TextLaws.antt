@@ -32,7 +32,8 @@ pub name_text : (text : List ℕ) → is_name text ≡ true → IsUtf8 text
 name_text text e = name_utf8 (labels_of text) text (name_kept text e)
 
 -- each of several that are names
-pub names_text : {A : Type 0} (view : A → List ℕ) (xs : List A) (i : ℕ) (d : A) → i < length xs → list_all (λ x. is_name (view x)) xs ≡ true → IsUtf8 (view (get_or xs i d))
+pub names_text : {A : Type 0} (view : A → List ℕ) (xs : List A) (i : ℕ) (d : A) → i < length xs → list_all (λ x. is_name (view x)) xs ≡ true
+    → IsUtf8 (view (get_or xs i d))
 names_text {A = A} view xs i d within all = by (is_name (view (get_or xs i d))) refl
   where
     by : (b : Bool) → is_name (view (get_or xs i d)) ≡ b → IsUtf8 (view (get_or xs i d))
@@ -87,6 +88,7 @@ variable_text text =
     (λ parts f. by_text parts (at_some AreText (split_at_byte equals_sign whole) parts f
     (cut_text whole (at_some (λ w. list_all is_printable w ≡ true) (printed 255 text) whole e (if_printed text))))))
 
-pub parts_text : {A : Type 0} (view : A → List ℕ × List ℕ) (found : Option A) (one : A) (text : List ℕ) → option_map (λ x. variable_of (view x)) found ≡ variable text → found ≡ Some one → IsText (variable_of (view one))
+pub parts_text : {A : Type 0} (view : A → List ℕ × List ℕ) (found : Option A) (one : A) (text : List ℕ)
+    → option_map (λ x. variable_of (view x)) found ≡ variable text → found ≡ Some one → IsText (variable_of (view one))
 parts_text {A = A} view found one text e is =
     at_some IsText (variable text) (variable_of (view one)) (sym e ∙ ap (option_map (λ (x : A). variable_of (view x))) is) (variable_text text)

@@ -21,7 +21,9 @@ any_viewed test view (x ∷ xs) = ap (λ b. test (view x) || b) (any_viewed test
 filter_viewed : {A X : Type 0} (test : X → Bool) (view : A → X) (xs : List A) → filter test (map view xs) ≡ map view (filter (λ x. test (view x)) xs)
 filter_viewed test view [] = refl
 filter_viewed test view (x ∷ xs) =
-    elim (test (view x)) as (λ b. cond b (view x ∷ filter test (map view xs)) (filter test (map view xs)) ≡ map view (cond b (x ∷ filter (λ x. test (view x)) xs) (filter (λ x. test (view x)) xs))) [
+    elim (test (view x)) as
+    (λ b. cond b (view x ∷ filter test (map view xs)) (filter test (map view xs))
+    ≡ map view (cond b (x ∷ filter (λ x. test (view x)) xs) (filter (λ x. test (view x)) xs))) [
       | true ↦ ap (λ ys. view x ∷ ys) (filter_viewed test view xs)
       | false ↦ filter_viewed test view xs
     ]
@@ -35,7 +37,8 @@ names_viewed view xs =
     ap (λ n. not (n == 0) && list_all is_name (map view xs)) (length-map xs view)
     ∙ ap (λ b. not (length xs == 0) && b) (list_all-map is_name view xs)
 
-pub right_viewed : {A : Type 0} (list : CodeList) (view : A → List ℕ) (xs : List A) → are_right list (map view xs) ≡ (not (length xs == 0) && not (list_any (λ x. is_wrong (option_word list (view x))) xs))
+pub right_viewed : {A : Type 0} (list : CodeList) (view : A → List ℕ) (xs : List A)
+    → are_right list (map view xs) ≡ (not (length xs == 0) && not (list_any (λ x. is_wrong (option_word list (view x))) xs))
 right_viewed list view xs =
     ap (λ n. not (n == 0) && not (list_any (λ word. is_wrong (option_word list word)) (map view xs))) (length-map xs view)
     ∙ ap (λ b. not (length xs == 0) && not b) (any_viewed (λ word. is_wrong (option_word list word)) view xs)

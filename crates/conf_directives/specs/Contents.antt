@@ -116,4 +116,8 @@ directive_content (directives.Interfaces interfaces patterns) = Interfaces inter
 directive_content (directives.Script path) = Script (string_bytes path)
 
 abbrev pub said_content : LineSaid → SaidContent
-said_content said = record { directive = option_map directive_content said.directive; notices = map (λ word. word.now) said.notices.items }
+said_content said =
+    record {
+      directive = option_map directive_content said.directive;
+      notices = map (λ word. word.now) said.notices.items;
+    }

@@ -14,10 +14,12 @@ use Rattle.conf_directives.specs.Identifiers.{identifier}
 use Rattle.conf_directives.specs.Says.{IsOfInterface, Says}
 
 abbrev pub LinesSayOneThing : Type 0
-LinesSayOneThing = (word about : List ℕ) (one other : Option SaidContent) → Says word about one → Says word about other → one ≡ other
+LinesSayOneThing =
+    (word about : List ℕ) (one other : Option SaidContent) → Says word about one → Says word about other → one ≡ other
 
 abbrev pub BlocksAreOfOneInterface : Type 0
-BlocksAreOfOneInterface = (about : List ℕ) (one other : Option Name) → IsOfInterface about one → IsOfInterface about other → one ≡ other
+BlocksAreOfOneInterface =
+    (about : List ℕ) (one other : Option Name) → IsOfInterface about one → IsOfInterface about other → one ≡ other
 
 -- option 61 has one byte or more, and a length byte (RFC 2132, section 9.14)
 pub record FitsOption (bytes : List ℕ) : Type 0 where

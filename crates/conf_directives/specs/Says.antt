@@ -1,4 +1,5 @@
--- What a line says: a directive, words that are only noticed, or nothing, where an argument is missing or out of its form.
+-- What a line says: a directive, words that are only noticed, or nothing, where an argument is missing or out of its
+-- form.
 use Rattle.std.specs.Prelude.{◌≡◌, ◌⊎◌, ℕ, ◌^◌, List, [], ◌∷◌, Option, Some, None, option_map}
 use Rattle.net_types.specs.declared.interface.Name.{Name}
 use Rattle.net_types.specs.Cutting.{◌>>=◌}
@@ -40,7 +41,8 @@ client_id (text ∷ []) = option_map contents.Bytes (identifier text)
 client_id _ = None
 
 abbrev pub value_said : ValueName → List (List ℕ) → Option DirectiveContent
-value_said (values.Seconds name) arguments = option_map (contents.Seconds name) (only arguments >>= number_at SECONDS_LIMIT)
+value_said (values.Seconds name) arguments =
+    option_map (contents.Seconds name) (only arguments >>= number_at SECONDS_LIMIT)
 value_said values.Metric arguments = option_map contents.Metric (only arguments >>= number_at (2 ^ 32))
 value_said values.VendorClass arguments = option_map contents.VendorClass (vendor_class arguments)
 value_said values.ClientId arguments = option_map contents.ClientIs (client_id arguments)
@@ -83,7 +85,8 @@ SaysNamed (Some names.Static) word about answer = IsStatic about answer
 SaysNamed (Some names.HostName) word about answer = ByArguments (host_said word) about answer
 SaysNamed (Some (names.Codes list)) word about answer = ByArguments (codes_said list) about answer
 SaysNamed (Some (names.Ia kind)) word about answer = ByArguments (ia_said kind) about answer
-SaysNamed (Some (names.Value name)) word about answer = ByArguments (λ arguments. option_map taken (value_said name arguments)) about answer
+SaysNamed (Some (names.Value name)) word about answer =
+    ByArguments (λ arguments. option_map taken (value_said name arguments)) about answer
 
 -- a line that isn't a heading says this by its first word and what follows that
 abbrev pub Says : (word about : List ℕ) → Option SaidContent → Type 0

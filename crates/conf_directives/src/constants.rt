@@ -7,8 +7,8 @@ use crate::shares::{LEAST_HINT, LEN_LIMIT, USUAL_LEN};
 use crate::texts::TEXT_LIMIT;
 use crate::valued::SECONDS_LIMIT;
 
-/// Law: an identifier has 2 to 255 bytes in pairs of digits, or a type and 254 of text, and other texts 255; a delegated prefix
-/// is asked for with 8 to 127 bits, 64 where none are said; times are a day at most.
+/// Law: an identifier has 2 to 255 bytes in pairs of digits, or a type and 254 of text, and other texts 255; a
+/// delegated prefix is asked for with 8 to 127 bits, 64 where none are said; times are a day at most.
 pub fn bounds_of_arguments()
     ensures least_pairs { LEAST_PAIRS ≡ 2 }
     ensures most_pairs { MOST_PAIRS ≡ 255 }

@@ -12,7 +12,8 @@ pub fn identifiers_fit()
     ensures { IdentifiersFit }
 {}
 
-/// The codes that a line takes are those of options, and of those that it refuses none is one without which no lease is one.
+/// The codes that a line takes are those of options, and of those that it refuses none is one without which no lease is
+/// one.
 pub fn codes_fit()
     ensures { CodesFit }
 {}

@@ -1,8 +1,8 @@
 //! What one line of a configuration says (dhcpcd.conf(5)).
 //!
-//! `heading_named` and `directive_named` tell a line by its first word. `interface_said` reads which interface a block is of,
-//! `directive_said` a directive with its arguments. What a line says holds by itself: that it repeats another one, or that there
-//! are too many of its kind, isn't judged here.
+//! `heading_named` and `directive_named` tell a line by its first word. `interface_said` reads which interface a block
+//! is of, `directive_said` a directive with its arguments. What a line says holds by itself: that it repeats another
+//! one, or that there are too many of its kind, isn't judged here.
 #![tactic(auto)]
 
 mod constants;

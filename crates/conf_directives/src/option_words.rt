@@ -165,7 +165,8 @@ fn are_right(list: CodeList, words: &[&[u8]]) -> bool
 }
 
 fn taken_codes(alloc: Global, list: CodeList, words: &[&[u8]]) -> Result<Vec<u8>, AllocError>
-    ensures { IfOk result (λ codes. codes.items ≡ filter_map (λ word. taken_code (option_word list word.now)) words.now) }
+    ensures { IfOk result
+        (λ codes. codes.items ≡ filter_map (λ word. taken_code (option_word list word.now)) words.now) }
 {
     words
         .iter()
@@ -184,7 +185,8 @@ fn noticed_words<'a>(
     list: CodeList,
     words: &[&'a [u8]],
 ) -> Result<Vec<&'a [u8]>, AllocError>
-    ensures { IfOk result (λ noticed. noticed.items ≡ filter (λ word. is_noticed (option_word list word.now)) words.now) }
+    ensures { IfOk result
+        (λ noticed. noticed.items ≡ filter (λ word. is_noticed (option_word list word.now)) words.now) }
 {
     words
         .iter()
@@ -221,7 +223,8 @@ pub(crate) fn codes_said<'a>(
     list: CodeList,
     arguments: &[&'a [u8]],
 ) -> Result<Option<LineSaid<'a>>, NoMemory>
-    ensures { IfOk result (λ said. option_map said_content said ≡ codes_said list (map (λ text. text.now) arguments.now)) }
+    ensures { IfOk result
+        (λ said. option_map said_content said ≡ codes_said list (map (λ text. text.now) arguments.now)) }
 {
     let words = all_options(alloc, arguments)?;
     codes_by(alloc, list, &words)

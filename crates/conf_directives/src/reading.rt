@@ -35,7 +35,8 @@ fn host_said<'a>(
     word: &'a [u8],
     arguments: &[&[u8]],
 ) -> Result<Option<LineSaid<'a>>, NoMemory>
-    ensures { IfOk result (λ said. option_map said_content said ≡ host_said word.now (map (λ text. text.now) arguments.now)) }
+    ensures { IfOk result
+        (λ said. option_map said_content said ≡ host_said word.now (map (λ text. text.now) arguments.now)) }
 {
     match arguments {
         [] => Ok(Some(LineSaid::noticed(alloc, word)?)),
@@ -45,7 +46,9 @@ fn host_said<'a>(
 }
 
 fn host_named<'a>(alloc: Global, name: &[u8]) -> Result<Option<LineSaid<'a>>, NoMemory>
-    ensures { IfOk result (λ said. option_map said_content said ≡ option_map (λ name. taken (contents.HostName name)) (domain_name name.now)) }
+    ensures { IfOk result
+        (λ said. option_map said_content said
+        ≡ option_map (λ name. taken (contents.HostName name)) (domain_name name.now)) }
 {
     match domain_name(name) {
         Some(name) => {
@@ -77,7 +80,9 @@ fn plainly_said<'a>(
     name: ValueName,
     arguments: &[&[u8]],
 ) -> Result<Option<LineSaid<'a>>, NoMemory>
-    ensures { IfOk result (λ said. option_map said_content said ≡ option_map taken (value_said name (map (λ text. text.now) arguments.now))) }
+    ensures { IfOk result
+        (λ said. option_map said_content said
+        ≡ option_map taken (value_said name (map (λ text. text.now) arguments.now))) }
 {
     match value_said(alloc, name, arguments)? {
         Some(directive) => Ok(Some(LineSaid::taken(alloc, directive))),
@@ -86,7 +91,8 @@ fn plainly_said<'a>(
 }
 
 fn host_line<'a>(alloc: Global, line: Line<'a>) -> Result<Option<LineSaid<'a>>, NoMemory>
-    ensures { IfOk result (λ said. ByArguments (host_said line.entry.directive.now) line.entry.about.now (option_map said_content said)) }
+    ensures { IfOk result
+        (λ said. ByArguments (host_said line.entry.directive.now) line.entry.about.now (option_map said_content said)) }
 {
     let arguments = argument_texts(alloc, line.about)?;
     host_said(alloc, line.directive, &arguments)
@@ -119,7 +125,9 @@ fn value_line<'a>(
     name: ValueName,
     about: &'a [u8],
 ) -> Result<Option<LineSaid<'a>>, NoMemory>
-    ensures { IfOk result (λ said. ByArguments (λ arguments. option_map taken (value_said name arguments)) about.now (option_map said_content said)) }
+    ensures { IfOk result
+        (λ said. ByArguments (λ arguments. option_map taken (value_said name arguments)) about.now
+        (option_map said_content said)) }
 {
     let arguments = argument_texts(alloc, about)?;
     plainly_said(alloc, name, &arguments)
@@ -139,7 +147,8 @@ fn named_line<'a>(
     name: DirectiveName,
     line: Line<'a>,
 ) -> Result<Option<LineSaid<'a>>, NoMemory>
-    ensures { IfOk result (λ said. SaysNamed (Some name) line.entry.directive.now line.entry.about.now (option_map said_content said)) }
+    ensures { IfOk result
+        (λ said. SaysNamed (Some name) line.entry.directive.now line.entry.about.now (option_map said_content said)) }
 {
     match name {
         DirectiveName::Flag(name) => Ok(Some(LineSaid::taken(alloc, Directive::Flag(name)))),
@@ -155,8 +164,8 @@ fn named_line<'a>(
     }
 }
 
-/// What a line says that isn't a heading: a directive with its arguments, and the words that are only noticed. None where
-/// an argument is missing or out of its form. A line with an unknown directive is a notice of it.
+/// What a line says that isn't a heading: a directive with its arguments, and the words that are only noticed. None
+/// where an argument is missing or out of its form. A line with an unknown directive is a notice of it.
 pub fn directive_said<'a>(alloc: Global, line: Line<'a>) -> Result<Option<LineSaid<'a>>, NoMemory>
     ensures { IfOk result (λ said. Says line.entry.directive.now line.entry.about.now (option_map said_content said)) }
 {

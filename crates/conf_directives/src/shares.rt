@@ -96,7 +96,8 @@ fn fourth_part(word: &[u8]) -> Option<&[u8]>
 }
 
 fn add_left_over<'a>(parts: &mut Vec<&'a [u8]>, word: &'a [u8]) -> Result<(), AllocError>
-    ensures { OnOk result (map (λ part. part.now) parts.new.items ≡ map (λ part. part.now) parts.old.items ++ left_over word.now) }
+    ensures { OnOk result
+        (map (λ part. part.now) parts.new.items ≡ map (λ part. part.now) parts.old.items ++ left_over word.now) }
 {
     if let Some(part) = fourth_part(word) {
         parts.push(part)?;
@@ -106,7 +107,8 @@ fn add_left_over<'a>(parts: &mut Vec<&'a [u8]>, word: &'a [u8]) -> Result<(), Al
 
 /// The parts of shares that aren't taken.
 fn left_over<'a>(alloc: Global, words: &[&'a [u8]]) -> Result<Vec<&'a [u8]>, AllocError>
-    ensures { IfOk result (λ parts. map (λ part. part.now) parts.items ≡ flat_map left_over (map (λ word. word.now) words.now)) }
+    ensures { IfOk result
+        (λ parts. map (λ part. part.now) parts.items ≡ flat_map left_over (map (λ word. word.now) words.now)) }
 {
     let mut parts = Vec::new(alloc);
     for word in words {
@@ -172,7 +174,8 @@ fn fit(one: Share, other: Share) -> bool
     is_plan(&[one, other])
 }
 
-/// Whether shares that stand in the order of their SLA ids obey the rules: of these only neighbours can have the same one.
+/// Whether shares that stand in the order of their SLA ids obey the rules: of these only neighbours can have the same
+/// one.
 fn neighbours_fit(shares: &[Share]) -> bool
     requires { IsNonDecreasingBy (λ share. share.sla) shares.now }
     ensures { result ≡ is_plan shares.now }
@@ -250,7 +253,8 @@ fn prefix_by<'a>(
     asked: Asked,
     shares: Vec<ShareLine>,
 ) -> Result<Option<LineSaid<'a>>, NoMemory>
-    ensures { IfOk result (λ said. option_map said_content said ≡ prefix_by (map (λ word. word.now) words.now) asked shares.items) }
+    ensures { IfOk result
+        (λ said. option_map said_content said ≡ prefix_by (map (λ word. word.now) words.now) asked shares.items) }
 {
     if !are_planned(alloc, asked.hint, &shares)? {
         return Ok(None);

@@ -54,7 +54,9 @@ fn address6(members: &[&[u8]]) -> Option<StaticValue>
 }
 
 fn own_domain(alloc: Global, members: &[&[u8]]) -> Result<Option<StaticValue>, NoMemory>
-    ensures { IfOk result (λ value. option_map static_content value ≡ value_of names.DomainName (map (λ member. member.now) members.now)) }
+    ensures { IfOk result
+        (λ value. option_map static_content value
+        ≡ value_of names.DomainName (map (λ member. member.now) members.now)) }
 {
     let Some(text) = only(members) else {
         return Ok(None);
@@ -68,7 +70,8 @@ fn value_of(
     name: StaticName,
     members: &[&[u8]],
 ) -> Result<Option<StaticValue>, NoMemory>
-    ensures { IfOk result (λ value. option_map static_content value ≡ value_of name (map (λ member. member.now) members.now)) }
+    ensures { IfOk result
+        (λ value. option_map static_content value ≡ value_of name (map (λ member. member.now) members.now)) }
 {
     match name {
         StaticName::Address => Ok(address(members)),
@@ -101,7 +104,8 @@ fn named_value<'a>(
     key: &'a [u8],
     value: &[u8],
 ) -> Result<Option<LineSaid<'a>>, NoMemory>
-    ensures { IfOk result (λ said. option_map said_content said ≡ named_value key.now value.now (named static_rows key.now)) }
+    ensures { IfOk result
+        (λ said. option_map said_content said ≡ named_value key.now value.now (named static_rows key.now)) }
 {
     match static_named(key) {
         Some(name) => known_value(alloc, name, value),

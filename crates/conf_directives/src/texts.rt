@@ -120,7 +120,8 @@ pub(crate) fn domain_names(
     alloc: Global,
     texts: &[&[u8]],
 ) -> Result<Option<Vec<String>>, AllocError>
-    ensures { IfOk result (λ names. option_map (λ v. map string_bytes v.items) names ≡ domain_names (map (λ text. text.now) texts.now)) }
+    ensures { IfOk result
+        (λ names. option_map (λ v. map string_bytes v.items) names ≡ domain_names (map (λ text. text.now) texts.now)) }
 {
     if are_names(texts) {
         Ok(Some(copies(alloc, texts)?))

@@ -19,7 +19,8 @@ pub const SECONDS_LIMIT: u64 = 86_401;
 const METRIC_LIMIT: u64 = 1 << 32;
 
 fn seconds(name: SecondsName, arguments: &[&[u8]]) -> Option<Directive>
-    ensures { option_map directive_content result ≡ value_said (values.Seconds name) (map (λ text. text.now) arguments.now) }
+    ensures { option_map directive_content result
+        ≡ value_said (values.Seconds name) (map (λ text. text.now) arguments.now) }
 {
     let seconds = number_of(only(arguments)?, SECONDS_LIMIT)?;
     Some(Directive::Seconds(name, seconds as u32))
@@ -42,7 +43,8 @@ fn copied(alloc: Global, text: Option<&[u8]>) -> Result<Option<Vec<u8>>, AllocEr
 }
 
 fn vendor_class(alloc: Global, arguments: &[&[u8]]) -> Result<Option<Vec<u8>>, NoMemory>
-    ensures { IfOk result (λ class. option_map (λ v. v.items) class ≡ vendor_class (map (λ text. text.now) arguments.now)) }
+    ensures { IfOk result
+        (λ class. option_map (λ v. v.items) class ≡ vendor_class (map (λ text. text.now) arguments.now)) }
 {
     match arguments {
         [] => Ok(Some(Vec::new(alloc))),
@@ -62,7 +64,8 @@ fn client_id(alloc: Global, arguments: &[&[u8]]) -> Result<Option<Identifier>, N
 }
 
 fn script(alloc: Global, arguments: &[&[u8]]) -> Result<Option<Directive>, NoMemory>
-    ensures { IfOk result (λ said. option_map directive_content said ≡ value_said values.Script (map (λ text. text.now) arguments.now)) }
+    ensures { IfOk result
+        (λ said. option_map directive_content said ≡ value_said values.Script (map (λ text. text.now) arguments.now)) }
 {
     let Some(text) = only(arguments) else {
         return Ok(None);
@@ -71,7 +74,8 @@ fn script(alloc: Global, arguments: &[&[u8]]) -> Result<Option<Directive>, NoMem
 }
 
 fn env(alloc: Global, arguments: &[&[u8]]) -> Result<Option<Directive>, NoMemory>
-    ensures { IfOk result (λ said. option_map directive_content said ≡ value_said values.Env (map (λ text. text.now) arguments.now)) }
+    ensures { IfOk result
+        (λ said. option_map directive_content said ≡ value_said values.Env (map (λ text. text.now) arguments.now)) }
 {
     let Some(text) = only(arguments) else {
         return Ok(None);
@@ -80,7 +84,9 @@ fn env(alloc: Global, arguments: &[&[u8]]) -> Result<Option<Directive>, NoMemory
 }
 
 fn blacklist(alloc: Global, arguments: &[&[u8]]) -> Result<Option<Directive>, NoMemory>
-    ensures { IfOk result (λ said. option_map directive_content said ≡ value_said values.Blacklist (map (λ text. text.now) arguments.now)) }
+    ensures { IfOk result
+        (λ said. option_map directive_content said
+        ≡ value_said values.Blacklist (map (λ text. text.now) arguments.now)) }
 {
     Ok(one_or_more(alloc, arguments)?.map(Directive::Blacklist))
 }
@@ -90,7 +96,9 @@ fn interfaces(
     list: InterfaceList,
     arguments: &[&[u8]],
 ) -> Result<Option<Directive>, NoMemory>
-    ensures { IfOk result (λ said. option_map directive_content said ≡ value_said (values.Interfaces list) (map (λ text. text.now) arguments.now)) }
+    ensures { IfOk result
+        (λ said. option_map directive_content said
+        ≡ value_said (values.Interfaces list) (map (λ text. text.now) arguments.now)) }
 {
     match one_or_more(alloc, arguments)? {
         Some(patterns) => Ok(Some(Directive::Interfaces(list, patterns))),
@@ -104,7 +112,8 @@ pub(crate) fn value_said(
     name: ValueName,
     arguments: &[&[u8]],
 ) -> Result<Option<Directive>, NoMemory>
-    ensures { IfOk result (λ said. option_map directive_content said ≡ value_said name (map (λ text. text.now) arguments.now)) }
+    ensures { IfOk result
+        (λ said. option_map directive_content said ≡ value_said name (map (λ text. text.now) arguments.now)) }
 {
     match name {
         ValueName::Seconds(name) => Ok(seconds(name, arguments)),

@@ -49,7 +49,8 @@ pub(crate) fn all_of<T: Word + Drop>(
     alloc: Global,
     words: &[&[u8]],
 ) -> Result<Option<Vec<T>>, NoMemory>
-    ensures { IfOk result (λ read. option_map (λ v. v.items) read ≡ read_all T.spelled (map (λ word. word.now) words.now)) }
+    ensures { IfOk result
+        (λ read. option_map (λ v. v.items) read ≡ read_all T.spelled (map (λ word. word.now) words.now)) }
 {
     let mut read = Vec::new(alloc);
     for word in words {
@@ -66,7 +67,8 @@ pub(crate) fn one_or_more<T: Word + Drop>(
     alloc: Global,
     words: &[&[u8]],
 ) -> Result<Option<Vec<T>>, NoMemory>
-    ensures { IfOk result (λ read. option_map (λ v. v.items) read ≡ one_or_more T.spelled (map (λ word. word.now) words.now)) }
+    ensures { IfOk result
+        (λ read. option_map (λ v. v.items) read ≡ one_or_more T.spelled (map (λ word. word.now) words.now)) }
 {
     if words.is_empty() {
         return Ok(None);
@@ -124,7 +126,8 @@ pub(crate) fn all_options<'a>(
     alloc: Global,
     texts: &[&'a [u8]],
 ) -> Result<Vec<&'a [u8]>, AllocError>
-    ensures { IfOk result (λ words. map (λ word. word.now) words.items ≡ flat_map options_of (map (λ text. text.now) texts.now)) }
+    ensures { IfOk result
+        (λ words. map (λ word. word.now) words.items ≡ flat_map options_of (map (λ text. text.now) texts.now)) }
 {
     let mut words = Vec::new(alloc);
     for text in texts {

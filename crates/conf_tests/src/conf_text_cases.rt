@@ -255,7 +255,8 @@ const SHARES: [(&[u8], &[(u32, u32, u32)]); 4] = [
         b"ia_pd 1/::/56 eth1/0 eth2/255",
         &[(2, 1002, 0), (3, 1003, 255)],
     ),
-    // the index is the SLA id where none is written: the upstream one uses 3 up, so eth2 is left out, and eth3 is unknown
+    // the index is the SLA id where none is written: the upstream one uses 3 up, so eth2 is left out, and eth3 is
+    // unknown
     (
         b"metric 9\nia_pd 1 eth0/3 eth3 eth2 eth1\ninterface eth1\nmetric 5",
         &[(2, 5, 2)],

@@ -58,16 +58,19 @@ plain_fits : (place : Place) (line : Directive) (said : Option SaidContent) → 
 plain_fits place line None fits = tt
 plain_fits place line (Some said) fits = fits
 
-standing_fits : (heading : Option HeadingName) (place : Place) (line : Directive) (stands : Standing) → StandsUnder heading place line stands → FitsStanding stands
+standing_fits : (heading : Option HeadingName) (place : Place) (line : Directive) (stands : Standing) → StandsUnder heading place line stands
+    → FitsStanding stands
 standing_fits (Some Interface) place line stands here = subst FitsStanding (sym here.2) (heading_fits place line here.0)
 standing_fits (Some Profile) place line stands here = subst FitsStanding (sym here) tt
 standing_fits (Some Ssid) place line stands here = subst FitsStanding (sym here) tt
 standing_fits None place line stands here = subst FitsStanding (sym here.2) (plain_fits place line here.0 (at_fits place line here.0 here.1))
 
-front_fits : (place : Place) (lines : List Directive) (front : List Standing) (rest : List Directive) → StandFrom place lines front rest → AllByRecursion FitsStanding front
+front_fits : (place : Place) (lines : List Directive) (front : List Standing) (rest : List Directive) → StandFrom place lines front rest
+    → AllByRecursion FitsStanding front
 front_fits place lines [] rest stand = tt
 front_fits place [] (stands ∷ front) rest stand = absurd stand
-front_fits place (line ∷ lines) (stands ∷ front) rest stand = (standing_fits (heading_at line.word) place line stands stand.0, front_fits (place_after stands) lines front rest stand.1)
+front_fits place (line ∷ lines) (stands ∷ front) rest stand =
+    (standing_fits (heading_at line.word) place line stands stand.0, front_fits (place_after stands) lines front rest stand.1)
 
 -- ---- scopes
 
@@ -76,7 +79,9 @@ last_fits P o [] fits fit = fits
 last_fits P o (x ∷ xs) fits fit = last_fits P (Some x) xs fit.0 fit.1
 
 said_fit : (place : Place) (front : List Standing) → AllByRecursion FitsStanding front → AllByRecursion FitsDirective (said_at_place place front)
-said_fit place front fit = found_fit (said_there place) FitsStanding FitsDirective (λ stands fits. some_guard (is_place place stands.place) (directive_of stands) FitsDirective fits) front fit
+said_fit place front fit =
+    found_fit (said_there place) FitsStanding FitsDirective
+    (λ stands fits. some_guard (is_place place stands.place) (directive_of stands) FitsDirective fits) front fit
 
 abbrev FitsIdentifier : IdentifierContent → Type 0
 FitsIdentifier identifier = FitsDirective (ClientIs identifier)
@@ -130,7 +135,8 @@ routers_one : (value : StaticContent) → FitsStatic value → IfSome (routers_i
 routers_one (Routers addresses) fits = fits
 routers_one _ fits = tt
 
-last_found_fits : {C X : Type 0} (f : C → Option X) (Q : C → Type 0) (P : X → Type 0) → ((c : C) → Q c → IfSome (f c) P) → (cs : List C) → AllByRecursion Q cs → IfSome (last_of f cs) P
+last_found_fits : {C X : Type 0} (f : C → Option X) (Q : C → Type 0) (P : X → Type 0) → ((c : C) → Q c → IfSome (f c) P) → (cs : List C) → AllByRecursion Q cs
+    → IfSome (last_of f cs) P
 last_found_fits f Q P each cs fit = last_fits P None (filter_map f cs) tt (found_fit f Q P each cs fit)
 
 scope_fits : (lines : List DirectiveContent) → AllByRecursion FitsDirective lines → FitsScope (scope_of lines)
@@ -169,7 +175,8 @@ record FitsAfter (global scope : ScopeContent) : Type 0 where
   fits : FitsScope scope
   few : length (global.ias ++ scope.ias) ≤ 6
 
-managed_fits : (conf : Configuration) (specs : List IfSpec) (spec : IfSpec) (block : ScopeContent) → FitMetrics conf → AllByRecursion FitsSpec specs → FitsSpec spec → FitsScope conf.global → FitsAfter conf.global block
+managed_fits : (conf : Configuration) (specs : List IfSpec) (spec : IfSpec) (block : ScopeContent) → FitMetrics conf → AllByRecursion FitsSpec specs
+    → FitsSpec spec → FitsScope conf.global → FitsAfter conf.global block
     → FitsManaged (record { spec = spec; conf = in_force_among conf specs spec block })
 managed_fits conf specs spec block metrics each one all after =
     let global : ScopeContent = conf.global in
@@ -185,11 +192,15 @@ managed_fits conf specs spec block metrics each one all after =
       metric = either_fits (λ n. n < 2 ^ 32) block.metric global.metric here.metric all.metric;
       address = either_fits FitsNet4 block.statics.address global.statics.address here.address all.address;
       address6 = either_fits FitsNet6 block.statics.address6 global.statics.address6 here.address6 all.address6;
-      router = router_fits (option_or block.statics.routers global.statics.routers) (either_fits (AllByRecursion FitsIp4) block.statics.routers global.statics.routers here.routers all.routers);
+      router =
+          router_fits (option_or block.statics.routers global.statics.routers)
+          (either_fits (AllByRecursion FitsIp4) block.statics.routers global.statics.routers here.routers all.routers);
       dhcp4 = record {
         host = text_fits (option_or block.host global.host) (either_fits (λ t. length t < 256) block.host global.host here.host all.host);
         vendor = text_fits (option_or block.vendor global.vendor) (either_fits (λ t. length t < 256) block.vendor global.vendor here.vendor all.vendor);
-        identifier = identifier_fits (option_or block.identifier global.identifier) (either_fits FitsIdentifier block.identifier global.identifier here.identifier all.identifier);
+        identifier =
+            identifier_fits (option_or block.identifier global.identifier)
+            (either_fits FitsIdentifier block.identifier global.identifier here.identifier all.identifier);
       };
       dhcp6 = record {
         few = omega (arith, ias_few index lines, few);
@@ -199,15 +210,18 @@ managed_fits conf specs spec block metrics each one all after =
       };
     }
 
-scope_found : (P : ScopeContent → Type 0) (o : Option BlockContent) → P (scope_of []) → IfSome o (λ block. P block.scope) → P (unwrap_or (option_map (λ (block : BlockContent). block.scope) o) (scope_of []))
+scope_found : (P : ScopeContent → Type 0) (o : Option BlockContent) → P (scope_of []) → IfSome o (λ block. P block.scope)
+    → P (unwrap_or (option_map (λ (block : BlockContent). block.scope) o) (scope_of []))
 scope_found P None none fits = none
 scope_found P (Some block) none fits = fits
 
-find_fits : (P : ScopeContent → Type 0) (test : BlockContent → Bool) (front : List Standing) → ((name : Name) → P (scope_of (said_at_place (Block name) front))) → (names : List Name) → IfSome (find test (map (block_of front) names)) (λ block. P block.scope)
+find_fits : (P : ScopeContent → Type 0) (test : BlockContent → Bool) (front : List Standing) → ((name : Name) → P (scope_of (said_at_place (Block name) front)))
+    → (names : List Name) → IfSome (find test (map (block_of front) names)) (λ block. P block.scope)
 find_fits P test front each [] = tt
 find_fits P test front each (name ∷ names) = by (test (block_of front name)) (find_fits P test front each names)
   where
-    by : (b : Bool) → IfSome (find test (map (block_of front) names)) (λ block. P block.scope) → IfSome (cond b (Some (block_of front name)) (find test (map (block_of front) names))) (λ block. P block.scope)
+    by : (b : Bool) → IfSome (find test (map (block_of front) names)) (λ block. P block.scope)
+        → IfSome (cond b (Some (block_of front name)) (find test (map (block_of front) names))) (λ block. P block.scope)
     by true later = each name
     by false later = later
 
@@ -218,7 +232,8 @@ few_alone : {X : Type 0} (xs ys : List X) → length (xs ++ ys) ≤ 6 → length
 few_alone xs ys few = omega (arith, few, length-append xs ys, length-append xs [])
 
 -- the scope of any interface, after the global lines
-scope_after : (front : List Standing) → AllByRecursion FitsStanding front → AreFew front → (name : Name) → FitsAfter (configured front).global (scope_for (configured front).blocks name)
+scope_after : (front : List Standing) → AllByRecursion FitsStanding front → AreFew front → (name : Name)
+    → FitsAfter (configured front).global (scope_for (configured front).blocks name)
 unfolding configured
 scope_after front fit few name =
     let global : ScopeContent = scope_of (said_at_place Global front) in
@@ -234,16 +249,22 @@ global_fits front fit = scope_fits (said_at_place Global front) (said_fit Global
 metrics_fit : (front : List Standing) → AllByRecursion FitsStanding front → AreFew front → FitMetrics (configured front)
 metrics_fit front fit few = record { global = (global_fits front fit).metric; block = λ name. (scope_after front fit few name).fits.metric }
 
-one_fits : (front : List Standing) → AllByRecursion FitsStanding front → AreFew front → (specs : List IfSpec) → AllByRecursion FitsSpec specs → (spec : IfSpec) → FitsSpec spec
+one_fits : (front : List Standing) → AllByRecursion FitsStanding front → AreFew front → (specs : List IfSpec) → AllByRecursion FitsSpec specs → (spec : IfSpec)
+    → FitsSpec spec
     → IfSome (managed_with spec (settings_of (configured front) specs spec)) FitsManaged
 one_fits front fit few specs each spec one = by (is_managed (configured front) spec.name)
   where
     by : (b : Bool) → IfSome (managed_with spec (cond b (Some (settings_for (configured front) specs spec)) None)) FitsManaged
-    by true = managed_fits (configured front) specs spec (scope_for (configured front).blocks spec.name) (metrics_fit front fit few) each one (global_fits front fit) (scope_after front fit few spec.name)
+    by true =
+        managed_fits (configured front) specs spec (scope_for (configured front).blocks spec.name) (metrics_fit front fit few) each one (global_fits front fit)
+        (scope_after front fit few spec.name)
     by false = tt
 
-all_fit : (front : List Standing) → AllByRecursion FitsStanding front → AreFew front → (specs : List IfSpec) → AllByRecursion FitsSpec specs → AreManaged (managed_of (configured front) specs)
-all_fit front fit few specs each = found_fit (λ spec. managed_with spec (settings_of (configured front) specs spec)) FitsSpec FitsManaged (λ spec one. one_fits front fit few specs each spec one) specs each
+all_fit : (front : List Standing) → AllByRecursion FitsStanding front → AreFew front → (specs : List IfSpec) → AllByRecursion FitsSpec specs
+    → AreManaged (managed_of (configured front) specs)
+all_fit front fit few specs each =
+    found_fit (λ spec. managed_with spec (settings_of (configured front) specs spec)) FitsSpec FitsManaged
+    (λ spec one. one_fits front fit few specs each spec one) specs each
 
 pub settings_fit : SettingsFit
 settings_fit text conf is specs each =

@@ -19,28 +19,38 @@ use Rattle.conf_text.specs.Steps.{both_counts, scope_counts}
 use Rattle.conf_text.specs.Values.{codes_said, ia_said, env_said, blacklist_said, interfaces_said}
 
 words_join : (list : CodeList) (global block : List DirectiveContent) → words_in list global + words_in list block ≡ words_in list (global ++ block)
-words_join list global block = sym (ap (sum_by (λ (said : CodesContent). said.words)) (filter_map-append (codes_said list) global block) ∙ sum_by-append (λ (said : CodesContent). said.words) (filter_map (codes_said list) global) (filter_map (codes_said list) block))
+words_join list global block =
+    sym
+    (ap (sum_by (λ (said : CodesContent). said.words)) (filter_map-append (codes_said list) global block)
+    ∙ sum_by-append (λ (said : CodesContent). said.words) (filter_map (codes_said list) global) (filter_map (codes_said list) block))
 
-found_join : {X : Type 0} (f : DirectiveContent → Option X) (global block : List DirectiveContent) → length (filter_map f global) + length (filter_map f block) ≡ length (filter_map f (global ++ block))
+found_join : {X : Type 0} (f : DirectiveContent → Option X) (global block : List DirectiveContent)
+    → length (filter_map f global) + length (filter_map f block) ≡ length (filter_map f (global ++ block))
 found_join f global block = sym (ap length (filter_map-append f global block) ∙ length-append (filter_map f global) (filter_map f block))
 
 lists_length : {X : Type 0} (lists : List (List X)) → length (flat_map (λ (list : List X). list) lists) ≡ sum_by length lists
 lists_length {X} lists = length-flat_map (λ (list : List X). list) lists
 
-blacklist_join : (global block : List DirectiveContent) → length (flat_map (λ nets. nets) (filter_map blacklist_said global)) + length (flat_map (λ nets. nets) (filter_map blacklist_said block)) ≡ sum_by length (filter_map blacklist_said (global ++ block))
+blacklist_join : (global block : List DirectiveContent)
+    → length (flat_map (λ nets. nets) (filter_map blacklist_said global)) + length (flat_map (λ nets. nets) (filter_map blacklist_said block))
+    ≡ sum_by length (filter_map blacklist_said (global ++ block))
 blacklist_join global block =
     ap (λ n. n + length (flat_map (λ nets. nets) (filter_map blacklist_said block))) (lists_length (filter_map blacklist_said global))
     ∙ ap (λ n. sum_by length (filter_map blacklist_said global) + n) (lists_length (filter_map blacklist_said block))
-    ∙ sym (ap (sum_by length) (filter_map-append blacklist_said global block) ∙ sum_by-append length (filter_map blacklist_said global) (filter_map blacklist_said block))
+    ∙ sym
+    (ap (sum_by length) (filter_map-append blacklist_said global block)
+    ∙ sum_by-append length (filter_map blacklist_said global) (filter_map blacklist_said block))
 
 patterns_counted_so : (list : InterfaceList) (global : List DirectiveContent) → length (interfaces_of list global) + 0 ≡ patterns_in list global
 patterns_counted_so list global = add-zero (length (interfaces_of list global)) ∙ lists_length (filter_map (interfaces_said list) global)
 
 -- what global lines count
 abbrev pub global_counts : List DirectiveContent → Counts
-global_counts global = record (scope_counts (scope_of global)) { allowed = length (interfaces_of Allowed global); denied = length (interfaces_of Denied global) }
+global_counts global =
+    record (scope_counts (scope_of global)) { allowed = length (interfaces_of Allowed global); denied = length (interfaces_of Denied global) }
 
-pub counts_join : (global block : List DirectiveContent) → both_counts (global_counts global) (scope_counts (scope_of block)) ≡ counts_of global (global ++ block)
+pub counts_join : (global block : List DirectiveContent)
+    → both_counts (global_counts global) (scope_counts (scope_of block)) ≡ counts_of global (global ++ block)
 counts_join global block =
     let asked = words_join Asked global block in
     let refused = words_join Refused global block in
@@ -52,10 +62,14 @@ counts_join global block =
     let denied = patterns_counted_so Denied global in
     cc
 
-pub cause_join : (global block : List DirectiveContent) (said : DirectiveContent) → cause_from ((scope_of global).ias ++ (scope_of block).ias) (both_counts (global_counts global) (scope_counts (scope_of block))) said ≡ cause_of global (global ++ block) said
+pub cause_join : (global block : List DirectiveContent) (said : DirectiveContent)
+    → cause_from ((scope_of global).ias ++ (scope_of block).ias) (both_counts (global_counts global) (scope_counts (scope_of block))) said
+    ≡ cause_of global (global ++ block) said
 cause_join global block said =
     ap (λ ias. cause_from ias (both_counts (global_counts global) (scope_counts (scope_of block))) said) (sym (filter_map-append ia_said global block))
     ∙ ap (λ counts. cause_from (filter_map ia_said (global ++ block)) counts said) (counts_join global block)
 
-pub cause_alone : (global : List DirectiveContent) (said : DirectiveContent) → cause_from ((scope_of global).ias ++ (scope_of []).ias) (both_counts (global_counts global) (scope_counts (scope_of []))) said ≡ cause_of global global said
+pub cause_alone : (global : List DirectiveContent) (said : DirectiveContent)
+    → cause_from ((scope_of global).ias ++ (scope_of []).ias) (both_counts (global_counts global) (scope_counts (scope_of []))) said
+    ≡ cause_of global global said
 cause_alone global said = cause_join global [] said ∙ ap (λ (lines : List DirectiveContent). cause_of global lines said) (append-nil global)

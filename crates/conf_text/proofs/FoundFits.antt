@@ -16,7 +16,8 @@ all_kept P p (x ∷ xs) fit = by (p x) (all_kept P p xs fit.1)
     by true later = (fit.0, later)
     by false later = later
 
-pub all_made : {X Y : Type 0} (P : X → Type 0) (Q : Y → Type 0) (f : X → Y) → ((x : X) → P x → Q (f x)) → (xs : List X) → AllByRecursion P xs → AllByRecursion Q (map f xs)
+pub all_made : {X Y : Type 0} (P : X → Type 0) (Q : Y → Type 0) (f : X → Y) → ((x : X) → P x → Q (f x)) → (xs : List X) → AllByRecursion P xs
+    → AllByRecursion Q (map f xs)
 all_made P Q f each [] fit = tt
 all_made P Q f each (x ∷ xs) fit = (each x fit.0, all_made P Q f each xs fit.1)
 
@@ -24,7 +25,8 @@ with_found_fits : {X : Type 0} (P : X → Type 0) (o : Option X) (xs : List X) �
 with_found_fits P None xs fits fit = fit
 with_found_fits P (Some x) xs fits fit = (fits, fit)
 
-pub found_fit : {C X : Type 0} (f : C → Option X) (Q : C → Type 0) (P : X → Type 0) → ((c : C) → Q c → IfSome (f c) P) → (cs : List C) → AllByRecursion Q cs → AllByRecursion P (filter_map f cs)
+pub found_fit : {C X : Type 0} (f : C → Option X) (Q : C → Type 0) (P : X → Type 0) → ((c : C) → Q c → IfSome (f c) P) → (cs : List C) → AllByRecursion Q cs
+    → AllByRecursion P (filter_map f cs)
 found_fit f Q P each [] fit = tt
 found_fit f Q P each (c ∷ cs) fit = with_found_fits P (f c) (filter_map f cs) (each c fit.0) (found_fit f Q P each cs fit.1)
 

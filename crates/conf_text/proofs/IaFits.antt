@@ -35,10 +35,13 @@ iaid_below : (iaid : Option ℕ) (index : ℕ) → IfSome iaid (λ n. n < 2 ^ 32
 iaid_below None index fits below = below
 iaid_below (Some iaid) index fits below = fits
 
-pub associations_fit : (index : ℕ) → index < 2 ^ 32 → (lines : List IaContent) → AllByRecursion FitsIa lines → AllByRecursion FitsAssociation (associations index lines)
+pub associations_fit : (index : ℕ) → index < 2 ^ 32 → (lines : List IaContent) → AllByRecursion FitsIa lines
+    → AllByRecursion FitsAssociation (associations index lines)
 associations_fit index below lines fit =
     all_once FitsAssociation (map (association index) (filter (is_kept index lines) lines))
-    (all_made FitsIa FitsAssociation (association index) (λ line fits. record { ia = record { iaid = iaid_below line.iaid index fits.0 below; hint = fits.1 }; shares = fits.2 }) (filter (is_kept index lines) lines)
+    (all_made FitsIa FitsAssociation (association index)
+    (λ line fits. record { ia = record { iaid = iaid_below line.iaid index fits.0 below; hint = fits.1 }; shares = fits.2 })
+    (filter (is_kept index lines) lines)
     (all_kept FitsIa (is_kept index lines) lines fit))
 
 pub ias_fit : (all : List Association) → AllByRecursion FitsAssociation all → AllByRecursion FitsIaConf (map ia_in all)
@@ -46,7 +49,8 @@ ias_fit all fit = all_made FitsAssociation FitsIaConf ia_in (λ one fits. fits.i
 
 -- ---- shares
 
-one_share : (hint : ℕ) (line : ShareLine) (sla : Option ℕ) → FitsLine line → IfSome (option_map (λ (n : ℕ). let share : Share = record { name = line.name; sla = n; len = line.len; hint = hint } in share) sla) FitsShare
+one_share : (hint : ℕ) (line : ShareLine) (sla : Option ℕ) → FitsLine line
+    → IfSome (option_map (λ (n : ℕ). let share : Share = record { name = line.name; sla = n; len = line.len; hint = hint } in share) sla) FitsShare
 one_share hint line None fits = tt
 one_share hint line (Some sla) fits = record { least = fits.least; most = fits.most }
 
@@ -61,8 +65,11 @@ taken_fit : (taken shares : List Share) → AllByRecursion FitsShare taken → A
 taken_fit taken [] fit others = fit
 taken_fit taken (share ∷ shares) fit others = taken_fit (taken_with taken share) shares (one_more_taken taken share fit others.0) others.1
 
-shares_fit : (specs : List IfSpec) (hint : ℕ) (lines : List ShareLine) → AllByRecursion FitsLine lines → AllByRecursion FitsShare (shares_taken specs hint lines)
-shares_fit specs hint lines fit = taken_fit [] (filter_map (share_of specs hint) lines) tt (found_fit (share_of specs hint) FitsLine FitsShare (λ line fits. one_share hint line (sla_of specs line) fits) lines fit)
+shares_fit : (specs : List IfSpec) (hint : ℕ) (lines : List ShareLine) → AllByRecursion FitsLine lines
+    → AllByRecursion FitsShare (shares_taken specs hint lines)
+shares_fit specs hint lines fit =
+    taken_fit [] (filter_map (share_of specs hint) lines) tt
+    (found_fit (share_of specs hint) FitsLine FitsShare (λ line fits. one_share hint line (sla_of specs line) fits) lines fit)
 
 -- ---- what they give
 
@@ -79,7 +86,8 @@ module _ (conf : Configuration) (metrics : FitMetrics conf) (specs : List IfSpec
   given_fits : (iaid : ℕ) (share : Share) → FitsShare share → IfSome (given_by conf specs upstream iaid share) FitsShareConf
   given_fits iaid share fits = by (spec_named specs share.name) (found_in FitsSpec (λ spec. is_named share.name spec.name) specs each)
     where
-      there : (spec : IfSpec) → FitsSpec spec → (b : Bool) → IfSome (option_map (share_with iaid share) (cond b (Some (outlet_of conf spec)) None)) FitsShareConf
+      there : (spec : IfSpec) → FitsSpec spec → (b : Bool)
+          → IfSome (option_map (share_with iaid share) (cond b (Some (outlet_of conf spec)) None)) FitsShareConf
       there spec one true = record {
         share = fits;
         outlet = record {
@@ -98,5 +106,6 @@ module _ (conf : Configuration) (metrics : FitMetrics conf) (specs : List IfSpec
   shared_fit [] fit = tt
   shared_fit (one ∷ all) fit =
       all_join FitsShareConf (shared_by conf specs upstream one) (flat_map (shared_by conf specs upstream) all)
-      (found_fit (given_by conf specs upstream one.ia.iaid) FitsShare FitsShareConf (given_fits one.ia.iaid) (shares_taken specs one.ia.hint one.shares) (shares_fit specs one.ia.hint one.shares fit.0.shares))
+      (found_fit (given_by conf specs upstream one.ia.iaid) FitsShare FitsShareConf (given_fits one.ia.iaid) (shares_taken specs one.ia.hint one.shares)
+      (shares_fit specs one.ia.hint one.shares fit.0.shares))
       (shared_fit all fit.1)

@@ -47,8 +47,10 @@ ias_with lines (Some said) = ap length (filter_map-append ia_said lines (said �
 ias_join : (lines more : List DirectiveContent) → ias_in (lines ++ more) ≡ ias_in lines + ias_in more
 ias_join lines more = ap length (filter_map-append ia_said lines more) ∙ length-append (filter_map ia_said lines) (filter_map ia_said more)
 
-ias_more : (place : Place) (front : List Standing) (stands : Standing) → ias_at place (front ++ stands ∷ []) ≡ ias_at place front + one_in (said_there place stands)
-ias_more place front stands = ap ias_in (said_more place front stands (said_there place stands) refl) ∙ ias_with (said_at_place place front) (said_there place stands)
+ias_more : (place : Place) (front : List Standing) (stands : Standing)
+    → ias_at place (front ++ stands ∷ []) ≡ ias_at place front + one_in (said_there place stands)
+ias_more place front stands =
+    ap ias_in (said_more place front stands (said_there place stands) refl) ∙ ias_with (said_at_place place front) (said_there place stands)
 
 -- ---- a line without a fault finds room
 
@@ -57,25 +59,30 @@ not_too_much true beyond good = absurd (none-some Repeated (sym good))
 not_too_much false true good = absurd (none-some TooMany (sym good))
 not_too_much false false good = refl
 
-room_for : (global before : List DirectiveContent) (said : DirectiveContent) → cause_of global before said ≡ None → ias_in before ≤ 6 → ias_in before + one_in (Some said) ≤ 6
+room_for : (global before : List DirectiveContent) (said : DirectiveContent) → cause_of global before said ≡ None → ias_in before ≤ 6
+    → ias_in before + one_in (Some said) ≤ 6
 room_for global before (Ia ia) good few =
     let within = not_too_much (is_repeated (filter_map ia_said before) (Ia ia)) (is_too_much (counts_of global before) (Ia ia)) good in
     ltb-false 6 (ias_in before + 1) (or_parts (nat_lt 6 (ias_in before + 1)) _ within).0
 room_for global before _ good few = omega (arith, few)
 
 good_at : (front : List Standing) (number : ℕ) (place : Place) (begins : Option Place) (said : Option SaidContent) (directive : DirectiveContent)
-    → directive_of (stand_so number place begins said) ≡ Some directive → cause_at front (stand_so number place begins said) ≡ None → cause_of (said_at_place Global front) (said_for place front) directive ≡ None
+    → directive_of (stand_so number place begins said) ≡ Some directive → cause_at front (stand_so number place begins said) ≡ None
+    → cause_of (said_at_place Global front) (said_for place front) directive ≡ None
 unfolding cause_at
 good_at front number place begins None directive is good = absurd (none-some BadArgument (sym good))
 good_at front number place (Some begun) (Some said) directive is good = absurd (none-some directive is)
 good_at front number place None (Some said) directive is good = sym (ap (cause_of_said (said_at_place Global front) (said_for place front)) is) ∙ good
 
-room_at : (front : List Standing) (stands : Standing) → cause_at front stands ≡ None → ias_in (said_for stands.place front) ≤ 6 → ias_in (said_for stands.place front) + one_in (directive_of stands) ≤ 6
+room_at : (front : List Standing) (stands : Standing) → cause_at front stands ≡ None → ias_in (said_for stands.place front) ≤ 6
+    → ias_in (said_for stands.place front) + one_in (directive_of stands) ≤ 6
 room_at front stands good few = by (directive_of stands) refl
   where
     by : (o : Option DirectiveContent) → directive_of stands ≡ o → ias_in (said_for stands.place front) + one_in o ≤ 6
     by None is = omega (arith, few)
-    by (Some said) is = room_for (said_at_place Global front) (said_for stands.place front) said (good_at front stands.number stands.place stands.begins stands.said said is good) few
+    by (Some said) is =
+        room_for (said_at_place Global front) (said_for stands.place front) said
+        (good_at front stands.number stands.place stands.begins stands.said said is good) few
 
 -- ---- lines one after another
 
@@ -86,12 +93,15 @@ record Few (place : Place) (front : List Standing) : Type 0 where
 
 few_there : (front : List Standing) (number : ℕ) (place : Place) (begins : Option Place) (said : Option SaidContent) (name : Name)
     → cause_at front (stand_so number place begins said) ≡ None → Few place front
-    → ias_at Global front + one_in (said_there Global (stand_so number place begins said)) + (ias_at (Block name) front + one_in (said_there (Block name) (stand_so number place begins said))) ≤ 6
+    → ias_at Global front + one_in (said_there Global (stand_so number place begins said)) +
+    (ias_at (Block name) front + one_in (said_there (Block name) (stand_so number place begins said)))
+    ≤ 6
 few_there front number Global begins said name good all =
     let few = all.few name in
     let none = all.none refl name in
     let within : ias_at Global front ≤ 6 = omega (arith, few) in
-    let room : ias_at Global front + one_in (directive_of (stand_so number Global begins said)) ≤ 6 = room_at front (stand_so number Global begins said) good within in
+    let room : ias_at Global front + one_in (directive_of (stand_so number Global begins said)) ≤ 6 =
+    room_at front (stand_so number Global begins said) good within in
     omega (arith, room, none)
 few_there front number (Block other) begins said name good all = by (is_named name other) refl
   where
@@ -102,7 +112,8 @@ few_there front number (Block other) begins said name good all = by (is_named na
     by false is = omega (arith, all.few name)
     by true is =
         let alike : ias_at (Block other) front ≡ ias_at (Block name) front = ap ias_in (said_by_text name other (named_same name other is) front) in
-        let joined : ias_in (said_for (Block other) front) ≡ ias_at Global front + ias_at (Block other) front = ias_join (said_at_place Global front) (said_at_place (Block other) front) in
+        let joined : ias_in (said_for (Block other) front) ≡ ias_at Global front + ias_at (Block other) front =
+        ias_join (said_at_place Global front) (said_at_place (Block other) front) in
         let few = all.few name in
         let within : ias_in (said_for (Block other) front) ≤ 6 = omega (arith, alike, joined, few) in
         let room : ias_in (said_for (Block other) front) + one_in (directive_of line) ≤ 6 = room_at front line good within in
@@ -113,7 +124,8 @@ elsewhere : (place : Place) → is_place Global place ≡ false → place ≡ Gl
 elsewhere place apart is = true≢false (sym (ap (is_place Global) is) ∙ apart)
 
 -- lines after which lines stand in front of all blocks stand there themselves
-stays_in_front : (heading : Option HeadingName) (place : Place) (line : Directive) (stands : Standing) → StandsUnder heading place line stands → place_after stands ≡ Global → place ≡ Global
+stays_in_front : (heading : Option HeadingName) (place : Place) (line : Directive) (stands : Standing) → StandsUnder heading place line stands
+    → place_after stands ≡ Global → place ≡ Global
 stays_in_front (Some Interface) place line stands here after = by here.0 (sym (ap place_after here.2) ∙ after)
   where
     by : (name : Option Name) → unwrap_or (option_map Block name) place ≡ Global → place ≡ Global
@@ -123,7 +135,8 @@ stays_in_front (Some Profile) place line stands here after = absurd (elsewhere S
 stays_in_front (Some Ssid) place line stands here after = absurd (elsewhere Skipped refl (sym (ap place_after here) ∙ after))
 stays_in_front None place line stands here after = sym (ap place_after here.2) ∙ after
 
-few_more : (place : Place) (line : Directive) (front : List Standing) (stands : Standing) → Stands place line stands → cause_at front stands ≡ None → Few place front → Few (place_after stands) (front ++ stands ∷ [])
+few_more : (place : Place) (line : Directive) (front : List Standing) (stands : Standing) → Stands place line stands → cause_at front stands ≡ None
+    → Few place front → Few (place_after stands) (front ++ stands ∷ [])
 few_more place line front stands here good all =
     let there : stands.place ≡ place = stands_there (heading_at line.word) place line stands here in
     record {
@@ -134,7 +147,9 @@ few_more place line front stands here good all =
           omega (arith, global, block, few);
       none = λ after name.
           let before : place ≡ Global = stays_in_front (heading_at line.word) place line stands here after in
-          let block = ias_more (Block name) front stands ∙ ap (λ o. ias_at (Block name) front + one_in o) (not_there (Block name) stands (ap (is_place (Block name)) (there ∙ before))) in
+          let block =
+          ias_more (Block name) front stands
+          ∙ ap (λ o. ias_at (Block name) front + one_in o) (not_there (Block name) stands (ap (is_place (Block name)) (there ∙ before))) in
           let none = all.none before name in
           omega (arith, block, none);
     }
@@ -147,7 +162,8 @@ no_cause : (number : ℕ) (o : Option ConfCause) → option_map (fault number) o
 no_cause number None good = refl
 no_cause number (Some cause) good = absurd (none-some (fault number cause) (sym good))
 
-few_from : (place : Place) (lines : List Directive) (before more : List Standing) (rest : List Directive) → StandFrom place lines more rest → first_from before more ≡ None → Few place before → Few (place_from place more) (before ++ more)
+few_from : (place : Place) (lines : List Directive) (before more : List Standing) (rest : List Directive) → StandFrom place lines more rest
+    → first_from before more ≡ None → Few place before → Few (place_from place more) (before ++ more)
 few_from place lines before [] rest stand good few = subst (Few place) (sym (append-nil before)) few
 few_from place [] before (stands ∷ more) rest stand good few = absurd stand
 few_from place (line ∷ lines) before (stands ∷ more) rest stand good few =

@@ -30,12 +30,18 @@ itself_among : (number : ℕ) (others : Bool) → (number == number || others) �
 itself_among number others = ap (λ b. b || others) (eq-eqb number number refl)
 
 module _ (conf : Configuration) (specs : List IfSpec) where
-  first_among : (spec : IfSpec) (these : List IfSpec) → is_managed conf spec.name ≡ true → has_index spec.index.number (managed_among conf specs (spec ∷ these)) ≡ true
+  first_among : (spec : IfSpec) (these : List IfSpec) → is_managed conf spec.name ≡ true
+      → has_index spec.index.number (managed_among conf specs (spec ∷ these)) ≡ true
   first_among spec these managed =
-      subst (λ b. has_index spec.index.number (cons_option (managed_with spec (cond b (Some (settings_for conf specs spec)) None)) (managed_among conf specs these)) ≡ true) (sym managed)
+      subst
+      (λ b. has_index spec.index.number
+      (cons_option (managed_with spec (cond b (Some (settings_for conf specs spec)) None)) (managed_among conf specs these))
+      ≡ true)
+      (sym managed)
       (itself_among spec.index.number (has_index spec.index.number (managed_among conf specs these)))
 
-  found_among : (test : IfSpec → Bool) (these : List IfSpec) → IfSome (find test these) (λ spec. is_managed conf spec.name ≡ true → has_index spec.index.number (managed_among conf specs these) ≡ true)
+  found_among : (test : IfSpec → Bool) (these : List IfSpec)
+      → IfSome (find test these) (λ spec. is_managed conf spec.name ≡ true → has_index spec.index.number (managed_among conf specs these) ≡ true)
   found_among test [] = tt
   found_among test (one ∷ these) = by (test one) (found_among test these)
     where
@@ -44,7 +50,9 @@ module _ (conf : Configuration) (specs : List IfSpec) where
 
       later : (o : Option IfSpec) → IfSome o (IsAmong these) → IfSome o (IsAmong (one ∷ these))
       later None among = tt
-      later (Some spec) among = λ managed. any_with (λ (m : Managed). m.spec.index.number == spec.index.number) (managed_with one (settings_of conf specs one)) (managed_among conf specs these) (among managed)
+      later (Some spec) among =
+          λ managed. any_with (λ (m : Managed). m.spec.index.number == spec.index.number) (managed_with one (settings_of conf specs one))
+          (managed_among conf specs these) (among managed)
 
       by : (b : Bool) → IfSome (find test these) (IsAmong these) → IfSome (cond b (Some one) (find test these)) (IsAmong (one ∷ these))
       by true among = first_among one these
@@ -66,11 +74,13 @@ module _ (conf : Configuration) (specs : List IfSpec) where
       by None among = tt
       by (Some spec) among = there spec (is_managed conf spec.name) (not (is_named upstream spec.name)) among
 
-  shared_lead : (upstream : Name) (all : List Association) → AllByRecursion (LeadsToManaged (managed_of conf specs)) (flat_map (shared_by conf specs upstream) all)
+  shared_lead : (upstream : Name) (all : List Association)
+      → AllByRecursion (LeadsToManaged (managed_of conf specs)) (flat_map (shared_by conf specs upstream) all)
   shared_lead upstream [] = tt
   shared_lead upstream (one ∷ all) =
       all_join (LeadsToManaged (managed_of conf specs)) (shared_by conf specs upstream one) (flat_map (shared_by conf specs upstream) all)
-      (all_found (given_by conf specs upstream one.ia.iaid) (LeadsToManaged (managed_of conf specs)) (given_leads upstream one.ia.iaid) (shares_taken specs one.ia.hint one.shares))
+      (all_found (given_by conf specs upstream one.ia.iaid) (LeadsToManaged (managed_of conf specs)) (given_leads upstream one.ia.iaid)
+      (shares_taken specs one.ia.hint one.shares))
       (shared_lead upstream all)
 
   abbrev Leads : Managed → Type 0

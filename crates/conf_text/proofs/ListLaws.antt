@@ -11,19 +11,24 @@ use Rattle.conf_text.specs.Steps.{first_place, list_with, list_on}
 
 -- ---- one more at the end
 
-with_option : {X Y : Type 0} (value : List X → Y) (step : Y → Option X → Y) → ((xs : List X) → step (value xs) None ≡ value xs) → ((xs : List X) (x : X) → value (xs ++ x ∷ []) ≡ step (value xs) (Some x)) → (o : Option X) (xs : List X) → value (xs ++ cons_option o []) ≡ step (value xs) o
+with_option : {X Y : Type 0} (value : List X → Y) (step : Y → Option X → Y) → ((xs : List X) → step (value xs) None ≡ value xs)
+    → ((xs : List X) (x : X) → value (xs ++ x ∷ []) ≡ step (value xs) (Some x)) → (o : Option X) (xs : List X)
+    → value (xs ++ cons_option o []) ≡ step (value xs) o
 with_option value step none some None xs = ap value (append-nil xs) ∙ sym (none xs)
 with_option value step none some (Some x) xs = some xs x
 
 -- a value of what a reading finds in a list, which takes one more by a step, takes what is found in one more by that step
-pub with_found : {C X Y : Type 0} (f : C → Option X) (value : List X → Y) (step : Y → Option X → Y) → ((xs : List X) → step (value xs) None ≡ value xs) → ((xs : List X) (x : X) → value (xs ++ x ∷ []) ≡ step (value xs) (Some x)) → (cs : List C) (c : C) → value (filter_map f (cs ++ c ∷ [])) ≡ step (value (filter_map f cs)) (f c)
+pub with_found : {C X Y : Type 0} (f : C → Option X) (value : List X → Y) (step : Y → Option X → Y) → ((xs : List X) → step (value xs) None ≡ value xs)
+    → ((xs : List X) (x : X) → value (xs ++ x ∷ []) ≡ step (value xs) (Some x)) → (cs : List C) (c : C)
+    → value (filter_map f (cs ++ c ∷ [])) ≡ step (value (filter_map f cs)) (f c)
 with_found f value step none some cs c = ap value (filter_map-append f cs (c ∷ [])) ∙ with_option value step none some (f c) (filter_map f cs)
 
 pub last_or_more : {X : Type 0} (o : Option X) (xs : List X) (x : X) → last_or o (xs ++ x ∷ []) ≡ Some x
 last_or_more o [] x = refl
 last_or_more o (y ∷ xs) x = last_or_more (Some y) xs x
 
-pub last_found : {C X : Type 0} (f : C → Option X) (cs : List C) (c : C) → last_or None (filter_map f (cs ++ c ∷ [])) ≡ option_or (f c) (last_or None (filter_map f cs))
+pub last_found : {C X : Type 0} (f : C → Option X) (cs : List C) (c : C)
+    → last_or None (filter_map f (cs ++ c ∷ [])) ≡ option_or (f c) (last_or None (filter_map f cs))
 last_found f cs c = with_found f (last_or None) (λ y o. option_or o y) (λ xs. refl) (last_or_more None) cs c
 
 pub list_found : {C X : Type 0} (f : C → Option X) (cs : List C) (c : C) → filter_map f (cs ++ c ∷ []) ≡ list_with (filter_map f cs) (f c)
@@ -32,7 +37,8 @@ list_found {X = X} f cs c = with_found f (λ (xs : List X). xs) list_with (λ xs
 pub lists_more : {X : Type 0} (xss : List (List X)) (xs : List X) → flat_map (λ (ys : List X). ys) (xss ++ xs ∷ []) ≡ flat_map (λ (ys : List X). ys) xss ++ xs
 lists_more {X} xss xs = flat_map-append (λ (ys : List X). ys) xss (xs ∷ []) ∙ ap (λ (zs : List X). flat_map (λ (ys : List X). ys) xss ++ zs) (append-nil xs)
 
-pub lists_found : {C X : Type 0} (f : C → Option (List X)) (cs : List C) (c : C) → flat_map (λ (ys : List X). ys) (filter_map f (cs ++ c ∷ [])) ≡ list_on (flat_map (λ (ys : List X). ys) (filter_map f cs)) (f c)
+pub lists_found : {C X : Type 0} (f : C → Option (List X)) (cs : List C) (c : C)
+    → flat_map (λ (ys : List X). ys) (filter_map f (cs ++ c ∷ [])) ≡ list_on (flat_map (λ (ys : List X). ys) (filter_map f cs)) (f c)
 lists_found {X = X} f cs c = with_found f (flat_map (λ (ys : List X). ys)) list_on (λ xs. refl) lists_more cs c
 
 -- ---- searches
@@ -41,8 +47,11 @@ pub any_in_map : {X Y : Type 0} (p : Y → Bool) (g : X → Y) (xs : List X) →
 any_in_map p g [] = refl
 any_in_map p g (x ∷ xs) = ap (λ b. p (g x) || b) (any_in_map p g xs)
 
-pub any_of_both : {X Y : Type 0} (p : Y → Bool) (g : X → Y) (xs ys : List X) → list_any p (map g xs ++ map g ys) ≡ (list_any (λ x. p (g x)) xs || list_any (λ x. p (g x)) ys)
-any_of_both p g xs ys = list_any-append p (map g xs) (map g ys) ∙ ap (λ b. b || list_any p (map g ys)) (any_in_map p g xs) ∙ ap (λ b. list_any (λ x. p (g x)) xs || b) (any_in_map p g ys)
+pub any_of_both : {X Y : Type 0} (p : Y → Bool) (g : X → Y) (xs ys : List X)
+    → list_any p (map g xs ++ map g ys) ≡ (list_any (λ x. p (g x)) xs || list_any (λ x. p (g x)) ys)
+any_of_both p g xs ys =
+    list_any-append p (map g xs) (map g ys) ∙ ap (λ b. b || list_any p (map g ys)) (any_in_map p g xs)
+    ∙ ap (λ b. list_any (λ x. p (g x)) xs || b) (any_in_map p g ys)
 
 pub mapped_both : {X Y Z : Type 0} (f : Y → Z) (g : X → Y) (xs ys : List X) → map (λ x. f (g x)) xs ++ map (λ x. f (g x)) ys ≡ map f (map g xs ++ map g ys)
 mapped_both f g [] [] = refl
@@ -61,7 +70,8 @@ place_later : (b : Bool) (at : ℕ) → cond b (Some (1 + at)) None ≡ option_m
 place_later true at = ap (λ n. Some n) (omega arith)
 place_later false at = refl
 
-place_step : (b : Bool) (at size : ℕ) (o : Option ℕ) → cond (nat_lt at size) (Some at) None ≡ o → cond (nat_lt (cond (not b) (1 + at) 0) (suc size)) (Some (cond (not b) (1 + at) 0)) None ≡ cond b (Some 0) (option_map suc o)
+place_step : (b : Bool) (at size : ℕ) (o : Option ℕ) → cond (nat_lt at size) (Some at) None ≡ o
+    → cond (nat_lt (cond (not b) (1 + at) 0) (suc size)) (Some (cond (not b) (1 + at) 0)) None ≡ cond b (Some 0) (option_map suc o)
 place_step true at size o same = let first : nat_lt 0 (suc size) ≡ true = lt-ltb 0 (suc size) (omega arith) in ap (λ b. cond b (Some 0) None) first
 place_step false at size o same = ap (λ b. cond b (Some (1 + at)) None) (one_on at size) ∙ place_later (nat_lt at size) at ∙ ap (λ p. option_map suc p) same
 

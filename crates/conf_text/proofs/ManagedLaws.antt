@@ -9,7 +9,9 @@ use Rattle.settings.specs.declared.interfaces.Managed.{Managed}
 use Rattle.conf_text.specs.Configurations.{Configuration}
 use Rattle.conf_text.specs.Settings.{managed_among, managed_with, settings_of}
 
-pub managed_more : (conf : Configuration) (specs these : List IfSpec) (at : ℕ) (spec : IfSpec) (all : List Managed) (settings : Option IfConf) → at < length these → all ≡ managed_among conf specs (take at these) → settings ≡ settings_of conf specs (get_or these at spec) → all ++ cons_option (managed_with (get_or these at spec) settings) [] ≡ managed_among conf specs (take (at + 1) these)
+pub managed_more : (conf : Configuration) (specs these : List IfSpec) (at : ℕ) (spec : IfSpec) (all : List Managed) (settings : Option IfConf)
+    → at < length these → all ≡ managed_among conf specs (take at these) → settings ≡ settings_of conf specs (get_or these at spec)
+    → all ++ cons_option (managed_with (get_or these at spec) settings) [] ≡ managed_among conf specs (take (at + 1) these)
 managed_more conf specs these at spec all settings within is said =
     ap (λ (ms : List Managed). ms ++ cons_option (managed_with (get_or these at spec) settings) []) is
     ∙ ap (λ (o : Option IfConf). managed_among conf specs (take at these) ++ cons_option (managed_with (get_or these at spec) o) []) said

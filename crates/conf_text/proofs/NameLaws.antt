@@ -63,8 +63,10 @@ unlike_join : (names : List Name) (name : Name) → list_any (is_named name) nam
 unlike_join [] name none unlike = (refl, tt)
 unlike_join (first ∷ names) name none unlike =
     let parts = or_parts (is_named name first) (list_any (is_named name) names) none in
-    let last : list_any (is_named first) (name ∷ []) ≡ false = none_or (is_named first name) false (named_back first name ∙ parts.0) refl in
-    (list_any-append (is_named first) names (name ∷ []) ∙ none_or (list_any (is_named first) names) (list_any (is_named first) (name ∷ [])) unlike.0 last, unlike_join names name parts.1 unlike.1)
+    let last : list_any (is_named first) (name ∷ []) ≡ false = none_or (is_named first name) false (named_back first name ∙ parts.0) refl in (
+      list_any-append (is_named first) names (name ∷ []) ∙ none_or (list_any (is_named first) names) (list_any (is_named first) (name ∷ [])) unlike.0 last,
+      unlike_join names name parts.1 unlike.1,
+    )
 
 unlike_added : (names : List Name) (name : Name) → AreUnlike names → AreUnlike (added names name)
 unlike_added names name unlike =
@@ -77,9 +79,12 @@ unlike_all before [] unlike = unlike
 unlike_all before (name ∷ names) unlike = unlike_all (added before name) names (unlike_added before name unlike)
 
 -- what isn't among the names that were left isn't among all of them
-none_added : (before : List Name) (first name : Name) → list_any (is_named name) (added before first) ≡ false → (list_any (is_named name) before ≡ false) × (is_named name first ≡ false)
+none_added : (before : List Name) (first name : Name) → list_any (is_named name) (added before first) ≡ false
+    → (list_any (is_named name) before ≡ false) × (is_named name first ≡ false)
 none_added before first name =
-    elim (list_any (is_named first) before) as (λ b. list_any (is_named first) before ≡ b → list_any (is_named name) (cond b before (before ++ first ∷ [])) ≡ false → (list_any (is_named name) before ≡ false) × (is_named name first ≡ false)) [
+    elim (list_any (is_named first) before) as
+    (λ b. list_any (is_named first) before ≡ b → list_any (is_named name) (cond b before (before ++ first ∷ [])) ≡ false
+    → (list_any (is_named name) before ≡ false) × (is_named name first ≡ false)) [
       | true ↦ (λ e none. (
         none,
         elim (is_named name first) as (λ b. is_named name first ≡ b → b ≡ false)
@@ -87,12 +92,15 @@ none_added before first name =
             refl,
       ))
       | false ↦ (λ e none.
-          let parts = or_parts (list_any (is_named name) before) (list_any (is_named name) (first ∷ [])) (sym (list_any-append (is_named name) before (first ∷ [])) ∙ none) in
+          let parts =
+          or_parts (list_any (is_named name) before) (list_any (is_named name) (first ∷ []))
+          (sym (list_any-append (is_named name) before (first ∷ [])) ∙ none) in
           (parts.0, (or_parts (is_named name first) false parts.1).0))
     ]
     refl
 
-pub none_unlike : (before names : List Name) (name : Name) → list_any (is_named name) (unlike_after before names) ≡ false → (list_any (is_named name) before ≡ false) × (list_any (is_named name) names ≡ false)
+pub none_unlike : (before names : List Name) (name : Name) → list_any (is_named name) (unlike_after before names) ≡ false
+    → (list_any (is_named name) before ≡ false) × (list_any (is_named name) names ≡ false)
 none_unlike before [] name none = (none, refl)
 none_unlike before (first ∷ names) name none =
     let later = none_unlike (added before first) names name none in
@@ -113,7 +121,8 @@ pub record AtPlace (name : Name) (names : List Name) (place : ℕ) : Type 0 wher
 pub at_place : (name : Name) (names : List Name) (place : ℕ) → first_place (is_named name) names ≡ Some place → AtPlace name names place
 at_place name [] place e = absurd (none-some place e)
 at_place name (first ∷ names) place e =
-    elim (is_named name first) as (λ b. is_named name first ≡ b → cond b (Some 0) (option_map suc (first_place (is_named name) names)) ≡ Some place → AtPlace name (first ∷ names) place) [
+    elim (is_named name first) as
+    (λ b. is_named name first ≡ b → cond b (Some 0) (option_map suc (first_place (is_named name) names)) ≡ Some place → AtPlace name (first ∷ names) place) [
       | true ↦ (λ h e. subst (AtPlace name (first ∷ names)) (same_Some 0 place e) record { there = first; gets = refl; named = h })
       | false ↦ (λ h e.
           let later = suc_of (first_place (is_named name) names) place e in
@@ -122,28 +131,37 @@ at_place name (first ∷ names) place e =
     ]
     refl e
 
-map_alike : {X : Type 0} (f g : Name → X) (test : Name → Bool) (names : List Name) → list_any test names ≡ false → ((name : Name) → test name ≡ false → g name ≡ f name) → map g names ≡ map f names
+map_alike : {X : Type 0} (f g : Name → X) (test : Name → Bool) (names : List Name) → list_any test names ≡ false
+    → ((name : Name) → test name ≡ false → g name ≡ f name) → map g names ≡ map f names
 map_alike f g test [] none same = refl
 map_alike f g test (name ∷ names) none same =
     let parts = or_parts (test name) (list_any test names) none in
     ap (λ x. x ∷ map g names) (same name parts.0) ∙ ap (λ xs. f name ∷ xs) (map_alike f g test names parts.1 same)
 
-set_later : (block : BlockContent) (blocks : List BlockContent) (place : ℕ) (o : Option BlockContent) → set_to (block ∷ blocks) (suc place) o ≡ block ∷ set_to blocks place o
+set_later : (block : BlockContent) (blocks : List BlockContent) (place : ℕ) (o : Option BlockContent)
+    → set_to (block ∷ blocks) (suc place) o ≡ block ∷ set_to blocks place o
 set_later block blocks place None = refl
 set_later block blocks place (Some other) = refl
 
 -- one name's block is changed, at its place
-pub set_block : (name : Name) (f g : Name → BlockContent) (step : BlockContent → BlockContent) (names : List Name) (place : ℕ) → AreUnlike names → first_place (is_named name) names ≡ Some place → ((other : Name) → is_named name other ≡ false → g other ≡ f other) → ((other : Name) → is_named name other ≡ true → g other ≡ step (f other)) → map g names ≡ set_to (map f names) place (option_map step (slice_get (map f names) place))
+pub set_block : (name : Name) (f g : Name → BlockContent) (step : BlockContent → BlockContent) (names : List Name) (place : ℕ) → AreUnlike names
+    → first_place (is_named name) names ≡ Some place → ((other : Name) → is_named name other ≡ false → g other ≡ f other)
+    → ((other : Name) → is_named name other ≡ true → g other ≡ step (f other))
+    → map g names ≡ set_to (map f names) place (option_map step (slice_get (map f names) place))
 set_block name f g step [] place unlike e same changed = absurd (none-some place e)
 set_block name f g step (first ∷ names) place unlike e same changed =
-    elim (is_named name first) as (λ b. is_named name first ≡ b → cond b (Some 0) (option_map suc (first_place (is_named name) names)) ≡ Some place → map g (first ∷ names) ≡ set_to (map f (first ∷ names)) place (option_map step (slice_get (map f (first ∷ names)) place))) [
+    elim (is_named name first) as
+    (λ b. is_named name first ≡ b → cond b (Some 0) (option_map suc (first_place (is_named name) names)) ≡ Some place
+    → map g (first ∷ names) ≡ set_to (map f (first ∷ names)) place (option_map step (slice_get (map f (first ∷ names)) place))) [
       | true ↦ (λ h at.
-          let others : list_any (is_named name) names ≡ false = sym (any_alike (is_named first) (is_named name) (named_alike name first (named_same name first h)) names) ∙ unlike.0 in
+          let others : list_any (is_named name) names ≡ false =
+          sym (any_alike (is_named first) (is_named name) (named_alike name first (named_same name first h)) names) ∙ unlike.0 in
           subst (λ k. map g (first ∷ names) ≡ set_to (map f (first ∷ names)) k (option_map step (slice_get (map f (first ∷ names)) k))) (same_Some 0 place at)
           (ap (λ x. x ∷ map g names) (changed first h) ∙ ap (λ xs. step (f first) ∷ xs) (map_alike f g (is_named name) names others same)))
       | false ↦ (λ h at.
           let later = suc_of (first_place (is_named name) names) place at in
           subst (λ k. map g (first ∷ names) ≡ set_to (map f (first ∷ names)) k (option_map step (slice_get (map f (first ∷ names)) k))) (sym later.2)
-          (ap (λ x. x ∷ map g names) (same first h) ∙ ap (λ xs. f first ∷ xs) (set_block name f g step names later.0 unlike.1 later.1 same changed) ∙ sym (set_later (f first) (map f names) later.0 (option_map step (slice_get (map f names) later.0)))))
+          (ap (λ x. x ∷ map g names) (same first h) ∙ ap (λ xs. f first ∷ xs) (set_block name f g step names later.0 unlike.1 later.1 same changed)
+          ∙ sym (set_later (f first) (map f names) later.0 (option_map step (slice_get (map f names) later.0)))))
     ]
     refl e

@@ -38,7 +38,8 @@ by_key first one other e = ap (λ (key : IaKind × ℕ). is_same_kind first.kind
 keys_same : (one other : IaConf) → is_same_ia one other ≡ true → conf_key one ≡ conf_key other
 keys_same one other e =
     let parts = and_parts (is_same_kind one.kind other.kind) _ e in
-    ap (λ (kind : IaKind). (kind, one.iaid)) (kinds_same one.kind other.kind parts.0) ∙ ap (λ (iaid : ℕ). (other.kind, iaid)) (eqb-true one.iaid other.iaid parts.1)
+    ap (λ (kind : IaKind). (kind, one.iaid)) (kinds_same one.kind other.kind parts.0)
+    ∙ ap (λ (iaid : ℕ). (other.kind, iaid)) (eqb-true one.iaid other.iaid parts.1)
 
 unlike_key : (one other : IaConf) → not (is_same_ia one other) ≡ true → conf_key one ≢ conf_key other
 unlike_key one other apart e = true≢false (sym (itself one) ∙ by_key one one other e ∙ apart_is (is_same_ia one other) apart)
@@ -63,7 +64,8 @@ still_among first last apart (ia ∷ ias) = by (is_same_ia first.ia ia.ia) refl 
     unlike false same e = same
 
     by : (b : Bool) → is_same_ia first.ia ia.ia ≡ b → list_any (λ one. is_same_ia one.ia last.ia) later ≡ list_any (λ one. is_same_ia one.ia last.ia) ias
-        → list_any (λ one. is_same_ia one.ia last.ia) (cond (not b) (ia ∷ later) later) ≡ (is_same_ia ia.ia last.ia || list_any (λ one. is_same_ia one.ia last.ia) ias)
+        → list_any (λ one. is_same_ia one.ia last.ia) (cond (not b) (ia ∷ later) later)
+        ≡ (is_same_ia ia.ia last.ia || list_any (λ one. is_same_ia one.ia last.ia) ias)
     by true e same = same ∙ sym (ap (λ b. b || list_any (λ one. is_same_ia one.ia last.ia) ias) (unlike (is_same_ia ia.ia last.ia) refl e))
     by false e same = ap (λ b. is_same_ia ia.ia last.ia || b) same
 
@@ -82,7 +84,8 @@ each_once_more (ia ∷ ias) last =
     last_goes : (b : Bool) → is_same_ia ia.ia last.ia ≡ b → filter (λ other. not (is_same_ia ia.ia other.ia)) (last ∷ []) ≡ cond (not b) (last ∷ []) []
     last_goes b e = ap (λ c. cond (not c) (last ∷ []) []) e
 
-    pushed : (b : Bool) → is_same_ia ia.ia last.ia ≡ b → filter (λ other. not (is_same_ia ia.ia other.ia)) (once ++ last ∷ []) ≡ kept ++ cond (not b) (last ∷ []) []
+    pushed : (b : Bool) → is_same_ia ia.ia last.ia ≡ b
+        → filter (λ other. not (is_same_ia ia.ia other.ia)) (once ++ last ∷ []) ≡ kept ++ cond (not b) (last ∷ []) []
     pushed b e = filter-append (λ other. not (is_same_ia ia.ia other.ia)) once (last ∷ []) ∙ ap (λ (ls : List Association). kept ++ ls) (last_goes b e)
 
     by : (b : Bool) → is_same_ia ia.ia last.ia ≡ b → (c : Bool) → list_any (λ one. is_same_ia one.ia last.ia) once ≡ c
@@ -106,7 +109,8 @@ pub kept_of_map : {X Y : Type 0} (p : Y → Bool) (f : X → Y) (xs : List X) �
 kept_of_map p f [] = refl
 kept_of_map p f (x ∷ xs) = by (p (f x)) (kept_of_map p f xs)
   where
-    by : (b : Bool) → filter p (map f xs) ≡ map f (filter (λ x. p (f x)) xs) → cond b (f x ∷ filter p (map f xs)) (filter p (map f xs)) ≡ map f (cond b (x ∷ filter (λ x. p (f x)) xs) (filter (λ x. p (f x)) xs))
+    by : (b : Bool) → filter p (map f xs) ≡ map f (filter (λ x. p (f x)) xs)
+        → cond b (f x ∷ filter p (map f xs)) (filter p (map f xs)) ≡ map f (cond b (x ∷ filter (λ x. p (f x)) xs) (filter (λ x. p (f x)) xs))
     by true same = ap (λ ys. f x ∷ ys) same
     by false same = same
 
@@ -120,7 +124,8 @@ each_unlike (first ∷ all) =
     let ias : List IaConf = map ia_in (each_once all) in
     subst (λ (others : List IaConf). AllPairs (λ one other. conf_key one ≢ conf_key other) (first.ia ∷ others)) (kept_of_map p ia_in (each_once all))
     (AllPairs-cons (λ (one other : IaConf). conf_key one ≢ conf_key other) first.ia (filter p ias)
-    (All-weaker (λ other. p other ≡ true) (λ other. conf_key first.ia ≢ conf_key other) (λ other apart. unlike_key first.ia other apart) (filter p ias) (filter_passes p ias))
+    (All-weaker (λ other. p other ≡ true) (λ other. conf_key first.ia ≢ conf_key other) (λ other apart. unlike_key first.ia other apart) (filter p ias)
+    (filter_passes p ias))
     (AllPairs-filter (λ (one other : IaConf). conf_key one ≢ conf_key other) p ias (each_unlike all)))
 
 few_kept : {X : Type 0} (p : X → Bool) (xs : List X) → length (filter p xs) ≤ length xs
@@ -133,4 +138,10 @@ once_few (first ∷ all) = omega (arith, few_kept (λ (other : Association). not
 pub ias_few : (index : ℕ) (lines : List IaContent) → length (ias_of index lines) ≤ length lines
 ias_few index lines =
     let kept : List IaContent = filter (is_kept index lines) lines in
-    omega (arith, length-map (associations index lines) ia_in, once_few (map (association index) kept), length-map kept (association index), few_kept (is_kept index lines) lines)
+    omega (
+      arith,
+      length-map (associations index lines) ia_in,
+      once_few (map (association index) kept),
+      length-map kept (association index),
+      few_kept (is_kept index lines) lines,
+    )

@@ -73,11 +73,13 @@ guard_fits : {X : Type 0} (test : X → Bool) (o : Option X) (P : X → Type 0) 
 guard_fits test None P each = tt
 guard_fits test (Some x) P each = some_if (test x) x P (each x)
 
-all_read : {X : Type 0} (read : List ℕ → Option X) (P : X → Type 0) → ((text : List ℕ) → IfSome (read text) P) → (texts : List (List ℕ)) → IfSome (read_all read texts) (AllByRecursion P)
+all_read : {X : Type 0} (read : List ℕ → Option X) (P : X → Type 0) → ((text : List ℕ) → IfSome (read text) P) → (texts : List (List ℕ))
+    → IfSome (read_all read texts) (AllByRecursion P)
 all_read read P each [] = tt
 all_read {X = X} read P each (text ∷ texts) = one_more (read text) (read_all read texts) (each text) (all_read read P each texts)
   where
-    one_more : (o : Option X) (os : Option (List X)) → IfSome o P → IfSome os (AllByRecursion P) → IfSome (option_and_then (λ x. option_and_then (λ xs. Some (x ∷ xs)) os) o) (AllByRecursion P)
+    one_more : (o : Option X) (os : Option (List X)) → IfSome o P → IfSome os (AllByRecursion P)
+        → IfSome (option_and_then (λ x. option_and_then (λ xs. Some (x ∷ xs)) os) o) (AllByRecursion P)
     one_more None os fits fit = tt
     one_more (Some x) None fits fit = tt
     one_more (Some x) (Some xs) fits fit = (fits, fit)
@@ -116,10 +118,12 @@ net4_fits : (text : List ℕ) → IfSome (net4_at text) FitsNet4
 net4_fits text = some_by (net4_at text) FitsNet4 (λ net e. (net4_reads.sound text net e).1)
 
 net6_fits : (text : List ℕ) → IfSome (net6_at text) FitsNet6
-net6_fits text = some_by (net6_at text) FitsNet6 (λ net e. let spells = net6_found text net e in record { address = spells.spells.range; prefix = spells.prefix })
+net6_fits text =
+    some_by (net6_at text) FitsNet6 (λ net e. let spells = net6_found text net e in record { address = spells.spells.range; prefix = spells.prefix })
 
 printed_fits : (limit : ℕ) (text : List ℕ) → limit ≤ 255 → IfSome (printed limit text) (λ t. length t < 256)
-printed_fits limit text small = some_if (is_printed limit text) text (λ t. length t < 256) (λ e. below (length text) limit small (and_parts (nat_le (length text) limit) _ e).0)
+printed_fits limit text small =
+    some_if (is_printed limit text) text (λ t. length t < 256) (λ e. below (length text) limit small (and_parts (nat_le (length text) limit) _ e).0)
 
 vendor_fits : (arguments : List (List ℕ)) → IfSome (vendor_class arguments) (λ class. length class < 256)
 vendor_fits [] = omega arith
@@ -127,7 +131,9 @@ vendor_fits (text ∷ []) = printed_fits 255 text (omega arith)
 vendor_fits (text ∷ other ∷ texts) = tt
 
 pairs_fit : (text : List ℕ) → IfSome (pairs text) (λ bytes. length bytes < 256)
-pairs_fit text = guard_fits are_enough (read_all pair (colon_parts text)) (λ bytes. length bytes < 256) (λ bytes e. below (length bytes) 255 (omega arith) (and_parts (nat_le 2 (length bytes)) _ e).1)
+pairs_fit text =
+    guard_fits are_enough (read_all pair (colon_parts text)) (λ bytes. length bytes < 256)
+    (λ bytes e. below (length bytes) 255 (omega arith) (and_parts (nat_le 2 (length bytes)) _ e).1)
 
 typed_fits : (text : List ℕ) → IfSome (typed_text text) (λ bytes. length bytes < 256)
 typed_fits text = some_map (printed 254 text) (λ bytes. 0 ∷ bytes) (λ bytes. length bytes < 256)
@@ -149,13 +155,16 @@ client_fits (text ∷ []) = some_map (identifier text) Bytes (λ i. FitsDirectiv
 client_fits (text ∷ other ∷ texts) = tt
 
 value_fits : (name : ValueName) (arguments : List (List ℕ)) → IfSome (value_said name arguments) FitsDirective
-value_fits (values.Seconds name) arguments = some_map (only arguments >>= number_at 86401) (Seconds name) FitsDirective (some_unit (only arguments >>= number_at 86401))
-value_fits values.Metric arguments = some_map (only arguments >>= number_at (2 ^ 32)) Metric FitsDirective (some_then (only arguments) (number_at (2 ^ 32)) (λ n. n < 2 ^ 32) metric_fits)
+value_fits (values.Seconds name) arguments =
+    some_map (only arguments >>= number_at 86401) (Seconds name) FitsDirective (some_unit (only arguments >>= number_at 86401))
+value_fits values.Metric arguments =
+    some_map (only arguments >>= number_at (2 ^ 32)) Metric FitsDirective (some_then (only arguments) (number_at (2 ^ 32)) (λ n. n < 2 ^ 32) metric_fits)
 value_fits values.VendorClass arguments = some_map (vendor_class arguments) VendorClass FitsDirective (vendor_fits arguments)
 value_fits values.ClientId arguments = some_map (client_id arguments) ClientIs FitsDirective (client_fits arguments)
 value_fits values.Env arguments = some_map (only arguments >>= variable) Variable FitsDirective (some_unit (only arguments >>= variable))
 value_fits values.Blacklist arguments = some_map (one_or_more server_net arguments) Blacklist FitsDirective (some_unit (one_or_more server_net arguments))
-value_fits (values.Interfaces list) arguments = some_map (one_or_more pattern arguments) (Interfaces list) FitsDirective (some_unit (one_or_more pattern arguments))
+value_fits (values.Interfaces list) arguments =
+    some_map (one_or_more pattern arguments) (Interfaces list) FitsDirective (some_unit (one_or_more pattern arguments))
 value_fits values.Script arguments = some_map (only arguments >>= printed 255) Script FitsDirective (some_unit (only arguments >>= printed 255))
 
 name_short : (text : List ℕ) → is_name text ≡ true → length text < 256
@@ -167,7 +176,8 @@ name_short text e = at (nat_lt 253 (length text)) refl
 
 host_fits : (word : List ℕ) (arguments : List (List ℕ)) → IfSome (host_said word arguments) FitsSaid
 host_fits word [] = tt
-host_fits word (text ∷ []) = some_map (domain_name text) (λ name. taken (HostName name)) FitsSaid (some_if (is_name text) text (λ name. length name < 256) (name_short text))
+host_fits word (text ∷ []) =
+    some_map (domain_name text) (λ name. taken (HostName name)) FitsSaid (some_if (is_name text) text (λ name. length name < 256) (name_short text))
 host_fits word (text ∷ other ∷ texts) = tt
 
 -- ---- static values
@@ -202,7 +212,8 @@ routers_fit members = by (length members == 0)
     by false = all_read ip4_at FitsIp4 ip4_fits members
 
 -- what holds of each row holds of the one that a word names
-rows_fit : {X : Type 0} (value : Option X → Option SaidContent) (rows : List (List ℕ × X)) (word : List ℕ) → IfSome (value None) FitsSaid → AllByRecursion (λ (row : List ℕ × X). IfSome (value (Some row.1)) FitsSaid) rows → IfSome (value (named rows word)) FitsSaid
+rows_fit : {X : Type 0} (value : Option X → Option SaidContent) (rows : List (List ℕ × X)) (word : List ℕ) → IfSome (value None) FitsSaid
+    → AllByRecursion (λ (row : List ℕ × X). IfSome (value (Some row.1)) FitsSaid) rows → IfSome (value (named rows word)) FitsSaid
 rows_fit value [] word none fit = none
 rows_fit value (row ∷ rows) word none fit = by (bytes_eq row.0 word) (rows_fit value rows word none fit.1)
   where
@@ -231,7 +242,9 @@ named_fits key value =
     )
 
 static_fits : (text : List ℕ) → IfSome (static_said text) FitsSaid
-static_fits text = some_then (split_at_byte equals_sign text) static_by FitsSaid (λ parts. some_guard (is_key parts.0) (named_value parts.0 parts.1 (named static_rows parts.0)) FitsSaid (named_fits parts.0 parts.1))
+static_fits text =
+    some_then (split_at_byte equals_sign text) static_by FitsSaid
+    (λ parts. some_guard (is_key parts.0) (named_value parts.0 parts.1 (named static_rows parts.0)) FitsSaid (named_fits parts.0 parts.1))
 
 -- ---- lines
 
@@ -240,7 +253,9 @@ id_below text id e = ((number_reads (2 ^ 32) (omega arith)).sound text id e).1
 
 addresses_fit : (arguments : List (List ℕ)) → IfSome (addresses arguments) FitsIa
 addresses_fit [] = (tt, omega arith, tt)
-addresses_fit (text ∷ []) = some_map (id_at text) (λ id. ia Na (Some id) 0 []) FitsIa (some_by (id_at text) (λ id. FitsIa (ia Na (Some id) 0 [])) (λ id e. (id_below text id e, omega arith, tt)))
+addresses_fit (text ∷ []) =
+    some_map (id_at text) (λ id. ia Na (Some id) 0 []) FitsIa
+    (some_by (id_at text) (λ id. FitsIa (ia Na (Some id) 0 [])) (λ id e. (id_below text id e, omega arith, tt)))
 addresses_fit (text ∷ other ∷ texts) = tt
 
 asked_below : (parts : List (List ℕ)) → IfSome (asked_by parts) (λ asked. asked.iaid < 2 ^ 32)
@@ -261,7 +276,8 @@ ia_fits Pd [] = (tt, omega arith, tt)
 ia_fits Pd (text ∷ words) =
     some_then_by (asked_by (slash_parts text)) (λ asked. option_and_then (prefix_by words asked) (read_all share words)) FitsSaid
     (λ asked e. some_then_by (read_all share words) (prefix_by words asked) FitsSaid
-    (λ shares f. some_if (are_planned asked.hint shares) (record { directive = Some (Ia (prefix asked shares)); notices = flat_map left_over words }) FitsSaid (λ planned. (
+    (λ shares f. some_if (are_planned asked.hint shares) (record { directive = Some (Ia (prefix asked shares)); notices = flat_map left_over words }) FitsSaid
+    (λ planned. (
       some_at (asked_by (slash_parts text)) asked (λ asked. asked.iaid < 2 ^ 32) e (asked_below (slash_parts text)),
       hint_most asked.hint (some_at (asked_by (slash_parts text)) asked FitsAsked e (hints_fit (slash_parts text))),
       some_at (read_all share words) shares (AllByRecursion FitsLine) f (all_read share FitsLine shares_fit words),
@@ -284,4 +300,6 @@ says_fits (Some names.Static) word about answer says = elim says [
 says_fits (Some names.HostName) word about answer says = answer_fits answer (host_said word says.arguments) says.says (host_fits word says.arguments)
 says_fits (Some (names.Codes list)) word about answer says = answer_fits answer (codes_said list says.arguments) says.says (codes_line_fits list says.arguments)
 says_fits (Some (names.Ia kind)) word about answer says = answer_fits answer (ia_said kind says.arguments) says.says (ia_fits kind says.arguments)
-says_fits (Some (names.Value name)) word about answer says = answer_fits answer (option_map taken (value_said name says.arguments)) says.says (some_map (value_said name says.arguments) taken FitsSaid (value_fits name says.arguments))
+says_fits (Some (names.Value name)) word about answer says =
+    answer_fits answer (option_map taken (value_said name says.arguments)) says.says
+    (some_map (value_said name says.arguments) taken FitsSaid (value_fits name says.arguments))

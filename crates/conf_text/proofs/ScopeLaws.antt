@@ -49,7 +49,9 @@ statics_more values (DomainName name) = simp last_found
 statics_more values (DomainSearch names) = simp last_found
 statics_more values (Address6 net) = simp last_found
 
-codes_found : (list : CodeList) (lines : List DirectiveContent) (said : DirectiveContent) → codes_together (filter_map (codes_said list) (lines ++ said ∷ [])) ≡ codes_with (codes_together (filter_map (codes_said list) lines)) (codes_said list said)
+codes_found : (list : CodeList) (lines : List DirectiveContent) (said : DirectiveContent)
+    → codes_together (filter_map (codes_said list) (lines ++ said ∷ []))
+    ≡ codes_with (codes_together (filter_map (codes_said list) lines)) (codes_said list said)
 codes_found list lines said = with_found (codes_said list) codes_together codes_with (λ xs. refl) codes_more lines said
 
 pub scope_more : (lines : List DirectiveContent) (said : DirectiveContent) → scope_of (lines ++ said ∷ []) ≡ scope_with (scope_of lines) said

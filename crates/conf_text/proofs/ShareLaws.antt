@@ -19,7 +19,8 @@ taken_last taken [] share = refl
 taken_last taken (first ∷ shares) share = taken_last (taken_with taken first) shares share
 
 pub share_step : (specs : List IfSpec) (hint : ℕ) (lines : List ShareLine) (at : ℕ) (line : ShareLine) (now next : List Share) → at < length lines
-    → now ≡ shares_taken specs hint (take at lines) → next ≡ taken_on now (share_of specs hint (get_or lines at line)) → next ≡ shares_taken specs hint (take (at + 1) lines)
+    → now ≡ shares_taken specs hint (take at lines) → next ≡ taken_on now (share_of specs hint (get_or lines at line))
+    → next ≡ shares_taken specs hint (take (at + 1) lines)
 share_step specs hint lines at line now next within so_far more =
     more
     ∙ ap (λ (taken : List Share). taken_on taken (share_of specs hint (get_or lines at line))) so_far
@@ -47,8 +48,10 @@ front_planned [] rest plan = refl
 front_planned (share ∷ front) rest plan =
     let last = and_parts (has_room share.hint share && list_all (go_together share) (front ++ rest)) (is_plan (front ++ rest)) plan in
     let first = and_parts (has_room share.hint share) (list_all (go_together share) (front ++ rest)) last.0 in
-    let together = and_parts (list_all (go_together share) front) (list_all (go_together share) rest) (sym (list_all-append (go_together share) front rest) ∙ first.1) in
-    and_from (has_room share.hint share && list_all (go_together share) front) (is_plan front) (and_from (has_room share.hint share) (list_all (go_together share) front) first.0 together.0) (front_planned front rest last.1)
+    let together =
+    and_parts (list_all (go_together share) front) (list_all (go_together share) rest) (sym (list_all-append (go_together share) front rest) ∙ first.1) in
+    and_from (has_room share.hint share && list_all (go_together share) front) (is_plan front)
+    (and_from (has_room share.hint share) (list_all (go_together share) front) first.0 together.0) (front_planned front rest last.1)
 
 all_taken : (taken shares : List Share) → is_plan (taken ++ shares) ≡ true → taken_after taken shares ≡ taken ++ shares
 all_taken taken [] plan = sym (append-nil taken)

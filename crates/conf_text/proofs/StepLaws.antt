@@ -80,10 +80,12 @@ abbrev parts_of : Configuration → Parts
 parts_of conf = record { global = conf.global; blocks = conf.blocks; allowed = conf.allowed; denied = conf.denied; script = conf.script }
 
 notices_more : (front : List Standing) (stands : Standing) → flat_map notices_of (front ++ stands ∷ []) ≡ flat_map notices_of front ++ notices_of stands
-notices_more front stands = flat_map-append notices_of front (stands ∷ []) ∙ ap (λ (ns : List NoticeContent). flat_map notices_of front ++ ns) (append-nil (notices_of stands))
+notices_more front stands =
+    flat_map-append notices_of front (stands ∷ []) ∙ ap (λ (ns : List NoticeContent). flat_map notices_of front ++ ns) (append-nil (notices_of stands))
 
 -- what a line adds to notices, whatever it does to the other parts
-next_conf : (front : List Standing) (stands : Standing) (parts : Parts) → parts_of (configured (front ++ stands ∷ [])) ≡ parts → configured (front ++ stands ∷ []) ≡ conf_from parts ((configured front).notices ++ notices_of stands)
+next_conf : (front : List Standing) (stands : Standing) (parts : Parts) → parts_of (configured (front ++ stands ∷ [])) ≡ parts
+    → configured (front ++ stands ∷ []) ≡ conf_from parts ((configured front).notices ++ notices_of stands)
 unfolding configured
 next_conf front stands parts e =
     ap (λ (p : Parts). conf_from p (flat_map notices_of (front ++ stands ∷ []))) e ∙ ap (conf_from parts) (notices_more front stands)
@@ -92,20 +94,28 @@ abbrev names_with : List Name → Option Name → List Name
 names_with names None = names
 names_with names (Some name) = added names name
 
-names_more : (front : List Standing) (stands : Standing) (name : Option Name) → begun stands ≡ name → names_in (front ++ stands ∷ []) ≡ names_with (names_in front) name
-names_more front stands name e = with_found begun (unlike_after []) names_with (λ names. refl) (unlike_more []) front stands ∙ ap (names_with (names_in front)) e
+names_more : (front : List Standing) (stands : Standing) (name : Option Name) → begun stands ≡ name
+    → names_in (front ++ stands ∷ []) ≡ names_with (names_in front) name
+names_more front stands name e =
+    with_found begun (unlike_after []) names_with (λ names. refl) (unlike_more []) front stands ∙ ap (names_with (names_in front)) e
 
 map_same : {X : Type 0} (f g : Name → X) → ((name : Name) → g name ≡ f name) → (names : List Name) → map g names ≡ map f names
 map_same f g same [] = refl
 map_same f g same (name ∷ names) = ap (λ x. x ∷ map g names) (same name) ∙ ap (λ xs. f name ∷ xs) (map_same f g same names)
 
-block_same : (front : List Standing) (stands : Standing) (name : Name) → said_there (Block name) stands ≡ None → block_of (front ++ stands ∷ []) name ≡ block_of front name
-block_same front stands name none = ap (λ (lines : List DirectiveContent). let block : BlockContent = record { name = name; scope = scope_of lines } in block) (said_more (Block name) front stands None none)
+block_same : (front : List Standing) (stands : Standing) (name : Name) → said_there (Block name) stands ≡ None
+    → block_of (front ++ stands ∷ []) name ≡ block_of front name
+block_same front stands name none =
+    ap (λ (lines : List DirectiveContent). let block : BlockContent = record { name = name; scope = scope_of lines } in block)
+    (said_more (Block name) front stands None none)
 
-block_more : (front : List Standing) (stands : Standing) (name : Name) (said : DirectiveContent) → said_there (Block name) stands ≡ Some said → block_of (front ++ stands ∷ []) name ≡ block_with said (block_of front name)
+block_more : (front : List Standing) (stands : Standing) (name : Name) (said : DirectiveContent) → said_there (Block name) stands ≡ Some said
+    → block_of (front ++ stands ∷ []) name ≡ block_with said (block_of front name)
 block_more front stands name said there =
-    ap (λ (lines : List DirectiveContent). let block : BlockContent = record { name = name; scope = scope_of lines } in block) (said_more (Block name) front stands (Some said) there)
-    ∙ ap (λ (scope : ScopeContent). let block : BlockContent = record { name = name; scope = scope } in block) (scope_more (said_at_place (Block name) front) said)
+    ap (λ (lines : List DirectiveContent). let block : BlockContent = record { name = name; scope = scope_of lines } in block)
+    (said_more (Block name) front stands (Some said) there)
+    ∙ ap (λ (scope : ScopeContent). let block : BlockContent = record { name = name; scope = scope } in block)
+    (scope_more (said_at_place (Block name) front) said)
 
 -- the global parts, where a line says nothing there
 abbrev global_parts : List DirectiveContent → List BlockContent → Parts
@@ -121,14 +131,18 @@ parts_so : (front : List Standing) → parts_of (configured front) ≡ global_pa
 unfolding configured
 parts_so front = refl
 
-parts_next : (front : List Standing) (stands : Standing) (said : Option DirectiveContent) (blocks : List BlockContent) → said_there Global stands ≡ said → map (block_of (front ++ stands ∷ [])) (names_in (front ++ stands ∷ [])) ≡ blocks → parts_of (configured (front ++ stands ∷ [])) ≡ global_parts (list_with (said_at_place Global front) said) blocks
+parts_next : (front : List Standing) (stands : Standing) (said : Option DirectiveContent) (blocks : List BlockContent) → said_there Global stands ≡ said
+    → map (block_of (front ++ stands ∷ [])) (names_in (front ++ stands ∷ [])) ≡ blocks
+    → parts_of (configured (front ++ stands ∷ [])) ≡ global_parts (list_with (said_at_place Global front) said) blocks
 parts_next front stands said blocks there e =
     parts_so (front ++ stands ∷ [])
-    ∙ ap (λ (lines : List DirectiveContent). global_parts lines (map (block_of (front ++ stands ∷ [])) (names_in (front ++ stands ∷ [])))) (said_more Global front stands said there)
+    ∙ ap (λ (lines : List DirectiveContent). global_parts lines (map (block_of (front ++ stands ∷ [])) (names_in (front ++ stands ∷ []))))
+    (said_more Global front stands said there)
     ∙ ap (global_parts (list_with (said_at_place Global front) said)) e
 
 -- one global line more
-global_more : (lines : List DirectiveContent) (said : DirectiveContent) (blocks : List BlockContent) (conf : Configuration) → parts_of conf ≡ global_parts lines blocks → global_parts (lines ++ said ∷ []) blocks ≡ parts_of (global_with said conf)
+global_more : (lines : List DirectiveContent) (said : DirectiveContent) (blocks : List BlockContent) (conf : Configuration)
+    → parts_of conf ≡ global_parts lines blocks → global_parts (lines ++ said ∷ []) blocks ≡ parts_of (global_with said conf)
 global_more lines said blocks conf e =
     let scope = scope_more lines said in
     let allowed = lists_found (interfaces_said Allowed) lines said in
@@ -144,15 +158,20 @@ global_more lines said blocks conf e =
 -- ---- lines that say nothing in a scope
 
 -- a line without directive leaves all but names and notices
-quiet_conf : (front : List Standing) (stands : Standing) (blocks : List BlockContent) → directive_of stands ≡ None → map (block_of (front ++ stands ∷ [])) (names_in (front ++ stands ∷ [])) ≡ blocks → configured (front ++ stands ∷ []) ≡ record (configured front) { blocks = blocks; notices = (configured front).notices ++ notices_of stands }
+quiet_conf : (front : List Standing) (stands : Standing) (blocks : List BlockContent) → directive_of stands ≡ None
+    → map (block_of (front ++ stands ∷ [])) (names_in (front ++ stands ∷ [])) ≡ blocks
+    → configured (front ++ stands ∷ []) ≡ record (configured front) { blocks = blocks; notices = (configured front).notices ++ notices_of stands }
 unfolding configured
 quiet_conf front stands blocks none e =
     next_conf front stands (global_parts (said_at_place Global front) blocks) (parts_next front stands None blocks (nothing_there Global stands none) e)
 
-quiet_blocks : (front : List Standing) (stands : Standing) → directive_of stands ≡ None → (names : List Name) → map (block_of (front ++ stands ∷ [])) names ≡ map (block_of front) names
-quiet_blocks front stands none names = map_same (block_of front) (block_of (front ++ stands ∷ [])) (λ name. block_same front stands name (nothing_there (Block name) stands none)) names
+quiet_blocks : (front : List Standing) (stands : Standing) → directive_of stands ≡ None → (names : List Name)
+    → map (block_of (front ++ stands ∷ [])) names ≡ map (block_of front) names
+quiet_blocks front stands none names =
+    map_same (block_of front) (block_of (front ++ stands ∷ [])) (λ name. block_same front stands name (nothing_there (Block name) stands none)) names
 
-quiet_next : (front : List Standing) (stands : Standing) → directive_of stands ≡ None → begun stands ≡ None → configured (front ++ stands ∷ []) ≡ notices_with stands.number (said_of stands).notices (configured front)
+quiet_next : (front : List Standing) (stands : Standing) → directive_of stands ≡ None → begun stands ≡ None
+    → configured (front ++ stands ∷ []) ≡ notices_with stands.number (said_of stands).notices (configured front)
 unfolding configured
 quiet_next front stands none nameless =
     quiet_conf front stands (map (block_of front) (names_in front)) none
@@ -176,11 +195,13 @@ any_placed : (name : Name) (names : List Name) (index : ℕ) → first_place (is
 any_placed name [] index e = absurd (none-some index e)
 any_placed name (first ∷ names) index e = at (is_named name first) (any_placed name names) e
   where
-    placed : (o : Option ℕ) → ((k : ℕ) → o ≡ Some k → list_any (is_named name) names ≡ true) → option_map suc o ≡ Some index → list_any (is_named name) names ≡ true
+    placed : (o : Option ℕ) → ((k : ℕ) → o ≡ Some k → list_any (is_named name) names ≡ true) → option_map suc o ≡ Some index
+        → list_any (is_named name) names ≡ true
     placed None later e = absurd (none-some index e)
     placed (Some k) later e = later k refl
 
-    at : (b : Bool) → ((k : ℕ) → first_place (is_named name) names ≡ Some k → list_any (is_named name) names ≡ true) → cond b (Some 0) (option_map suc (first_place (is_named name) names)) ≡ Some index → (b || list_any (is_named name) names) ≡ true
+    at : (b : Bool) → ((k : ℕ) → first_place (is_named name) names ≡ Some k → list_any (is_named name) names ≡ true)
+        → cond b (Some 0) (option_map suc (first_place (is_named name) names)) ≡ Some index → (b || list_any (is_named name) names) ≡ true
     at true later e = refl
     at false later e = placed (first_place (is_named name) names) later e
 
@@ -192,92 +213,127 @@ none_placed name (first ∷ names) e = at (is_named name first) (none_placed nam
     placed None later e = later refl
     placed (Some k) later e = absurd (none-some (suc k) (sym e))
 
-    at : (b : Bool) → (first_place (is_named name) names ≡ None → list_any (is_named name) names ≡ false) → cond b (Some 0) (option_map suc (first_place (is_named name) names)) ≡ None → (b || list_any (is_named name) names) ≡ false
+    at : (b : Bool) → (first_place (is_named name) names ≡ None → list_any (is_named name) names ≡ false)
+        → cond b (Some 0) (option_map suc (first_place (is_named name) names)) ≡ None → (b || list_any (is_named name) names) ≡ false
     at true later e = absurd (none-some 0 (sym e))
     at false later e = placed (first_place (is_named name) names) later e
 
-last_placed : (name : Name) (names : List Name) → first_place (is_named name) names ≡ None → first_place (is_named name) (names ++ name ∷ []) ≡ Some (length names)
+last_placed : (name : Name) (names : List Name) → first_place (is_named name) names ≡ None
+    → first_place (is_named name) (names ++ name ∷ []) ≡ Some (length names)
 last_placed name [] e = ap (λ b. cond b (Some 0) None) (same_named name name refl)
 last_placed name (first ∷ names) e = at (is_named name first) (last_placed name names) e
   where
-    placed : (o : Option ℕ) → (o ≡ None → first_place (is_named name) (names ++ name ∷ []) ≡ Some (length names)) → option_map suc o ≡ None → first_place (is_named name) (names ++ name ∷ []) ≡ Some (length names)
+    placed : (o : Option ℕ) → (o ≡ None → first_place (is_named name) (names ++ name ∷ []) ≡ Some (length names)) → option_map suc o ≡ None
+        → first_place (is_named name) (names ++ name ∷ []) ≡ Some (length names)
     placed None later e = later refl
     placed (Some k) later e = absurd (none-some (suc k) (sym e))
 
-    at : (b : Bool) → (first_place (is_named name) names ≡ None → first_place (is_named name) (names ++ name ∷ []) ≡ Some (length names)) → cond b (Some 0) (option_map suc (first_place (is_named name) names)) ≡ None → cond b (Some 0) (option_map suc (first_place (is_named name) (names ++ name ∷ []))) ≡ Some (suc (length names))
+    at : (b : Bool) → (first_place (is_named name) names ≡ None → first_place (is_named name) (names ++ name ∷ []) ≡ Some (length names))
+        → cond b (Some 0) (option_map suc (first_place (is_named name) names)) ≡ None
+        → cond b (Some 0) (option_map suc (first_place (is_named name) (names ++ name ∷ []))) ≡ Some (suc (length names))
     at true later e = absurd (none-some 0 (sym e))
     at false later e = ap (option_map suc) (placed (first_place (is_named name) names) later e)
 
 -- ---- a block begins
 
-goes_on_in : (front : List Standing) (number : ℕ) (place : Place) (name : Name) (said : SaidContent) (index : ℕ) → first_place (is_named name) (names_in front) ≡ Some index → Goes front (stand_so number place (Some (Block name)) (Some said)) (record { conf = notices_with number said.notices (configured front); spot = Spots.Block index })
+goes_on_in : (front : List Standing) (number : ℕ) (place : Place) (name : Name) (said : SaidContent) (index : ℕ)
+    → first_place (is_named name) (names_in front) ≡ Some index
+    → Goes front (stand_so number place (Some (Block name)) (Some said))
+    (record { conf = notices_with number said.notices (configured front); spot = Spots.Block index })
 unfolding cause_at configured
 goes_on_in front number place name said index e =
     let stands : Standing = stand_so number place (Some (Block name)) (Some said) in
     let any = any_placed name (names_in front) index e in
-    let names : names_in (front ++ stands ∷ []) ≡ names_in front = names_more front stands (Some name) refl ∙ ap (λ b. cond b (names_in front) (names_in front ++ name ∷ [])) any in
+    let names : names_in (front ++ stands ∷ []) ≡ names_in front =
+    names_more front stands (Some name) refl ∙ ap (λ b. cond b (names_in front) (names_in front ++ name ∷ [])) any in
     record {
-      good = ap (λ b. cond (nat_le MOST_BLOCKS (length (names_in front)) && not b) (Some TooMany) None) any ∙ ap (λ b. cond b (Some TooMany) None) (and-false (nat_le MOST_BLOCKS (length (names_in front))));
-      is = sym (quiet_conf front stands (map (block_of front) (names_in front)) refl (ap (map (block_of (front ++ stands ∷ []))) names ∙ quiet_blocks front stands refl (names_in front)));
+      good =
+          ap (λ b. cond (nat_le MOST_BLOCKS (length (names_in front)) && not b) (Some TooMany) None) any
+          ∙ ap (λ b. cond b (Some TooMany) None) (and-false (nat_le MOST_BLOCKS (length (names_in front))));
+      is =
+          sym
+          (quiet_conf front stands (map (block_of front) (names_in front)) refl
+          (ap (map (block_of (front ++ stands ∷ []))) names ∙ quiet_blocks front stands refl (names_in front)));
       at = subst (λ (ns : List Name). first_place (is_named name) ns ≡ Some index) (sym names) e;
     }
 
-begins_new : (front : List Standing) (spot : Spot) (number : ℕ) (place : Place) (name : Name) (said : SaidContent) → Chained Global front → first_place (is_named name) (names_in front) ≡ None → nat_le MOST_BLOCKS (length (names_in front)) ≡ false → Goes front (stand_so number place (Some (Block name)) (Some said)) (record { conf = notices_with number said.notices (with_block name (state front spot)).conf; spot = (with_block name (state front spot)).spot })
+begins_new : (front : List Standing) (spot : Spot) (number : ℕ) (place : Place) (name : Name) (said : SaidContent) → Chained Global front
+    → first_place (is_named name) (names_in front) ≡ None → nat_le MOST_BLOCKS (length (names_in front)) ≡ false
+    → Goes front (stand_so number place (Some (Block name)) (Some said))
+    (record { conf = notices_with number said.notices (with_block name (state front spot)).conf; spot = (with_block name (state front spot)).spot })
 unfolding cause_at configured
 begins_new front spot number place name said chain e room =
     let stands : Standing = stand_so number place (Some (Block name)) (Some said) in
     let none = none_placed name (names_in front) e in
-    let names : names_in (front ++ stands ∷ []) ≡ names_in front ++ name ∷ [] = names_more front stands (Some name) refl ∙ ap (λ b. cond b (names_in front) (names_in front ++ name ∷ [])) none in
+    let names : names_in (front ++ stands ∷ []) ≡ names_in front ++ name ∷ [] =
+    names_more front stands (Some name) refl ∙ ap (λ b. cond b (names_in front) (names_in front ++ name ∷ [])) none in
     let empty : said_at_place (Block name) front ≡ [] = none_said name Global front chain refl (none_unlike [] (filter_map begun front) name none).1 in
     let fresh : BlockContent = record { name = name; scope = scope_of [] } in
     let blocks : map (block_of (front ++ stands ∷ [])) (names_in (front ++ stands ∷ [])) ≡ map (block_of front) (names_in front) ++ fresh ∷ [] =
     ap (map (block_of (front ++ stands ∷ []))) names
     ∙ quiet_blocks front stands refl (names_in front ++ name ∷ [])
     ∙ map-append (block_of front) (names_in front) (name ∷ [])
-    ∙ ap (λ (lines : List DirectiveContent). let block : BlockContent = record { name = name; scope = scope_of lines } in map (block_of front) (names_in front) ++ block ∷ []) empty in
+    ∙ ap
+    (λ (lines : List DirectiveContent). let block : BlockContent = record { name = name; scope = scope_of lines } in map (block_of front) (names_in front)
+    ++ block ∷ [])
+    empty in
     record {
-      good = ap (λ b. cond (nat_le MOST_BLOCKS (length (names_in front)) && not b) (Some TooMany) None) none ∙ ap (λ b. cond (b && true) (Some TooMany) None) room;
+      good =
+          ap (λ b. cond (nat_le MOST_BLOCKS (length (names_in front)) && not b) (Some TooMany) None) none ∙ ap (λ b. cond (b && true) (Some TooMany) None) room;
       is = sym (quiet_conf front stands (map (block_of front) (names_in front) ++ fresh ∷ []) refl blocks);
       at = subst (λ (ns : List Name). first_place (is_named name) ns ≡ Some (length (map (block_of front) (names_in front)))) (sym names)
           (last_placed name (names_in front) e ∙ ap (λ n. Some n) (sym (length-map (names_in front) (block_of front))));
     }
 
-no_room : (front : List Standing) (number : ℕ) (place : Place) (name : Name) (said : SaidContent) → first_place (is_named name) (names_in front) ≡ None → nat_le MOST_BLOCKS (length (names_in front)) ≡ true → cause_at front (stand_so number place (Some (Block name)) (Some said)) ≡ Some TooMany
+no_room : (front : List Standing) (number : ℕ) (place : Place) (name : Name) (said : SaidContent) → first_place (is_named name) (names_in front) ≡ None
+    → nat_le MOST_BLOCKS (length (names_in front)) ≡ true → cause_at front (stand_so number place (Some (Block name)) (Some said)) ≡ Some TooMany
 unfolding cause_at
 no_room front number place name said e full =
-    ap (λ b. cond (nat_le MOST_BLOCKS (length (names_in front)) && not b) (Some TooMany) None) (none_placed name (names_in front) e) ∙ ap (λ b. cond (b && true) (Some TooMany) None) full
+    ap (λ b. cond (nat_le MOST_BLOCKS (length (names_in front)) && not b) (Some TooMany) None) (none_placed name (names_in front) e)
+    ∙ ap (λ b. cond (b && true) (Some TooMany) None) full
 
-enter_law : (front : List Standing) (spot : Spot) (number : ℕ) (place : Place) (name : Name) (said : SaidContent) → Chained Global front → Outcome front (stand_so number place (Some (Block name)) (Some said)) (noticed_step number said.notices (enter (state front spot) name))
+enter_law : (front : List Standing) (spot : Spot) (number : ℕ) (place : Place) (name : Name) (said : SaidContent) → Chained Global front
+    → Outcome front (stand_so number place (Some (Block name)) (Some said)) (noticed_step number said.notices (enter (state front spot) name))
 unfolding configured
 enter_law front spot number place name said chain =
-    subst (λ (o : Option ℕ). Outcome front stands (noticed_step number said.notices (entered (state front spot) name o))) (sym (first_place_map (λ (block : BlockContent). is_named name block.name) (block_of front) (names_in front)))
+    subst (λ (o : Option ℕ). Outcome front stands (noticed_step number said.notices (entered (state front spot) name o)))
+    (sym (first_place_map (λ (block : BlockContent). is_named name block.name) (block_of front) (names_in front)))
     (at (first_place (is_named name) (names_in front)) refl)
   where
     stands : Standing
     stands = stand_so number place (Some (Block name)) (Some said)
 
-    full : (b : Bool) → first_place (is_named name) (names_in front) ≡ None → nat_le MOST_BLOCKS (length (names_in front)) ≡ b → Outcome front stands (noticed_step number said.notices (cond b (Err TooMany) (Ok (with_block name (state front spot)))))
+    full : (b : Bool) → first_place (is_named name) (names_in front) ≡ None → nat_le MOST_BLOCKS (length (names_in front)) ≡ b
+        → Outcome front stands (noticed_step number said.notices (cond b (Err TooMany) (Ok (with_block name (state front spot)))))
     full true e h = no_room front number place name said e h
     full false e h = begins_new front spot number place name said chain e h
 
-    at : (o : Option ℕ) → first_place (is_named name) (names_in front) ≡ o → Outcome front stands (noticed_step number said.notices (entered (state front spot) name o))
+    at : (o : Option ℕ) → first_place (is_named name) (names_in front) ≡ o
+        → Outcome front stands (noticed_step number said.notices (entered (state front spot) name o))
     at (Some index) e = goes_on_in front number place name said index e
-    at None e = subst (λ n. Outcome front stands (noticed_step number said.notices (cond (nat_le MOST_BLOCKS n) (Err TooMany) (Ok (with_block name (state front spot)))))) (sym (length-map (names_in front) (block_of front))) (full (nat_le MOST_BLOCKS (length (names_in front))) e refl)
+    at None e =
+        subst
+        (λ n. Outcome front stands (noticed_step number said.notices (cond (nat_le MOST_BLOCKS n) (Err TooMany) (Ok (with_block name (state front spot))))))
+        (sym (length-map (names_in front) (block_of front))) (full (nat_le MOST_BLOCKS (length (names_in front))) e refl)
 
 -- ---- a directive
 
-cause_global : (front : List Standing) (said : DirectiveContent) → cause_now (state front Spots.Global) said ≡ cause_of (said_at_place Global front) (said_at_place Global front) said
+cause_global : (front : List Standing) (said : DirectiveContent)
+    → cause_now (state front Spots.Global) said ≡ cause_of (said_at_place Global front) (said_at_place Global front) said
 unfolding configured
 cause_global front said = cause_alone (said_at_place Global front) said
 
-cause_skipped : (front : List Standing) (said : DirectiveContent) → cause_now (state front Spots.Skipped) said ≡ cause_of (said_at_place Global front) (said_at_place Global front) said
+cause_skipped : (front : List Standing) (said : DirectiveContent)
+    → cause_now (state front Spots.Skipped) said ≡ cause_of (said_at_place Global front) (said_at_place Global front) said
 unfolding configured
 cause_skipped front said = cause_alone (said_at_place Global front) said
 
 abbrev cause_with : Configuration → DirectiveContent → ScopeContent → Option ConfCause
 cause_with conf said block = cause_from (conf.global.ias ++ block.ias) (both_counts (conf_counts conf) (scope_counts block)) said
 
-cause_block : (front : List Standing) (name : Name) (index : ℕ) (said : DirectiveContent) → first_place (is_named name) (names_in front) ≡ Some index → cause_now (state front (Spots.Block index)) said ≡ cause_of (said_at_place Global front) (said_at_place Global front ++ said_at_place (Block name) front) said
+cause_block : (front : List Standing) (name : Name) (index : ℕ) (said : DirectiveContent) → first_place (is_named name) (names_in front) ≡ Some index
+    → cause_now (state front (Spots.Block index)) said
+    ≡ cause_of (said_at_place Global front) (said_at_place Global front ++ said_at_place (Block name) front) said
 unfolding configured
 cause_block front name index said at =
     let found = at_place name (names_in front) index at in
@@ -287,7 +343,8 @@ cause_block front name index said at =
     ∙ ap (λ (ls : List DirectiveContent). cause_with (configured front) said (scope_of ls)) lines
     ∙ cause_join (said_at_place Global front) (said_at_place (Block name) front) said
 
-cause_so : (front : List Standing) (place : Place) (spot : Spot) (said : DirectiveContent) → IsSpot (names_in front) place spot → cause_now (state front spot) said ≡ cause_of (said_at_place Global front) (said_for place front) said
+cause_so : (front : List Standing) (place : Place) (spot : Spot) (said : DirectiveContent) → IsSpot (names_in front) place spot
+    → cause_now (state front spot) said ≡ cause_of (said_at_place Global front) (said_for place front) said
 cause_so front Global Spots.Global said at = cause_global front said
 cause_so front Global (Spots.Block index) said at = absurd at
 cause_so front Global Spots.Skipped said at = absurd at
@@ -304,26 +361,35 @@ says number place said notices = stand_so number place None (Some (record { dire
 abbrev said_conf : ℕ → Spot → DirectiveContent → List (List ℕ) → Configuration → Configuration
 said_conf number spot said notices conf = notices_with number notices (say_now spot said conf)
 
-same_names : (front : List Standing) (number : ℕ) (place : Place) (said : DirectiveContent) (notices : List (List ℕ)) → names_in (front ++ says number place said notices ∷ []) ≡ names_in front
+same_names : (front : List Standing) (number : ℕ) (place : Place) (said : DirectiveContent) (notices : List (List ℕ))
+    → names_in (front ++ says number place said notices ∷ []) ≡ names_in front
 same_names front number place said notices = names_more front (says number place said notices) None refl
 
-say_global : (front : List Standing) (number : ℕ) (said : DirectiveContent) (notices : List (List ℕ)) → configured (front ++ says number Global said notices ∷ []) ≡ said_conf number Spots.Global said notices (configured front)
+say_global : (front : List Standing) (number : ℕ) (said : DirectiveContent) (notices : List (List ℕ))
+    → configured (front ++ says number Global said notices ∷ []) ≡ said_conf number Spots.Global said notices (configured front)
 unfolding configured
 say_global front number said notices =
     let stands : Standing = says number Global said notices in
-    let blocks = ap (map (block_of (front ++ stands ∷ []))) (same_names front number Global said notices) ∙ map_same (block_of front) (block_of (front ++ stands ∷ [])) (λ name. block_same front stands name refl) (names_in front) in
+    let blocks =
+    ap (map (block_of (front ++ stands ∷ []))) (same_names front number Global said notices)
+    ∙ map_same (block_of front) (block_of (front ++ stands ∷ [])) (λ name. block_same front stands name refl) (names_in front) in
     next_conf front stands (parts_of (global_with said (configured front)))
     (parts_next front stands (Some said) (map (block_of front) (names_in front)) refl blocks
     ∙ global_more (said_at_place Global front) said (map (block_of front) (names_in front)) (configured front) (parts_so front))
 
-say_skipped : (front : List Standing) (number : ℕ) (said : DirectiveContent) (notices : List (List ℕ)) → configured (front ++ says number Skipped said notices ∷ []) ≡ said_conf number Spots.Skipped said notices (configured front)
+say_skipped : (front : List Standing) (number : ℕ) (said : DirectiveContent) (notices : List (List ℕ))
+    → configured (front ++ says number Skipped said notices ∷ []) ≡ said_conf number Spots.Skipped said notices (configured front)
 unfolding configured
 say_skipped front number said notices =
     let stands : Standing = says number Skipped said notices in
-    let blocks = ap (map (block_of (front ++ stands ∷ []))) (same_names front number Skipped said notices) ∙ map_same (block_of front) (block_of (front ++ stands ∷ [])) (λ name. block_same front stands name refl) (names_in front) in
+    let blocks =
+    ap (map (block_of (front ++ stands ∷ []))) (same_names front number Skipped said notices)
+    ∙ map_same (block_of front) (block_of (front ++ stands ∷ [])) (λ name. block_same front stands name refl) (names_in front) in
     next_conf front stands (parts_of (configured front)) (parts_next front stands None (map (block_of front) (names_in front)) refl blocks)
 
-say_block : (front : List Standing) (number : ℕ) (name : Name) (index : ℕ) (said : DirectiveContent) (notices : List (List ℕ)) → first_place (is_named name) (names_in front) ≡ Some index → configured (front ++ says number (Block name) said notices ∷ []) ≡ said_conf number (Spots.Block index) said notices (configured front)
+say_block : (front : List Standing) (number : ℕ) (name : Name) (index : ℕ) (said : DirectiveContent) (notices : List (List ℕ))
+    → first_place (is_named name) (names_in front) ≡ Some index
+    → configured (front ++ says number (Block name) said notices ∷ []) ≡ said_conf number (Spots.Block index) said notices (configured front)
 unfolding configured
 say_block front number name index said notices at =
     let stands : Standing = says number (Block name) said notices in
@@ -332,11 +398,13 @@ say_block front number name index said notices at =
     let here : (other : Name) → is_named name other ≡ true → block_of (front ++ stands ∷ []) other ≡ block_with said (block_of front other) =
     (λ other e. block_more front stands other said (said_here (Block other) stands (Some said) (named_back other name ∙ e) refl)) in
     let blocks = ap (map (block_of (front ++ stands ∷ []))) (same_names front number (Block name) said notices)
-    ∙ set_block name (block_of front) (block_of (front ++ stands ∷ [])) (block_with said) (names_in front) index (unlike_all [] (filter_map begun front) tt) at apart here in
+    ∙ set_block name (block_of front) (block_of (front ++ stands ∷ [])) (block_with said) (names_in front) index
+    (unlike_all [] (filter_map begun front) tt) at apart here in
     next_conf front stands (parts_of (record (configured front) { blocks = say_at index said (map (block_of front) (names_in front)) }))
     (parts_next front stands None (say_at index said (map (block_of front) (names_in front))) refl blocks)
 
-say_so : (front : List Standing) (number : ℕ) (place : Place) (spot : Spot) (said : DirectiveContent) (notices : List (List ℕ)) → IsSpot (names_in front) place spot → configured (front ++ says number place said notices ∷ []) ≡ said_conf number spot said notices (configured front)
+say_so : (front : List Standing) (number : ℕ) (place : Place) (spot : Spot) (said : DirectiveContent) (notices : List (List ℕ))
+    → IsSpot (names_in front) place spot → configured (front ++ says number place said notices ∷ []) ≡ said_conf number spot said notices (configured front)
 say_so front number Global Spots.Global said notices at = say_global front number said notices
 say_so front number Global (Spots.Block index) said notices at = absurd at
 say_so front number Global Spots.Skipped said notices at = absurd at
@@ -347,13 +415,16 @@ say_so front number Skipped Spots.Global said notices at = absurd at
 say_so front number Skipped (Spots.Block index) said notices at = absurd at
 say_so front number Skipped Spots.Skipped said notices at = say_skipped front number said notices
 
-say_law : (front : List Standing) (spot : Spot) (number : ℕ) (place : Place) (said : DirectiveContent) (notices : List (List ℕ)) → IsSpot (names_in front) place spot → Outcome front (says number place said notices) (noticed_step number notices (take_step (state front spot) said))
+say_law : (front : List Standing) (spot : Spot) (number : ℕ) (place : Place) (said : DirectiveContent) (notices : List (List ℕ))
+    → IsSpot (names_in front) place spot → Outcome front (says number place said notices) (noticed_step number notices (take_step (state front spot) said))
 unfolding take_step cause_at
 say_law front spot number place said notices at =
-    subst (λ (o : Option ConfCause). Outcome front (says number place said notices) (noticed_step number notices (taken (state front spot) said o))) (sym (cause_so front place spot said at))
+    subst (λ (o : Option ConfCause). Outcome front (says number place said notices) (noticed_step number notices (taken (state front spot) said o)))
+    (sym (cause_so front place spot said at))
     (by (cause_of (said_at_place Global front) (said_for place front) said) refl)
   where
-    by : (o : Option ConfCause) → cause_of (said_at_place Global front) (said_for place front) said ≡ o → Outcome front (says number place said notices) (noticed_step number notices (taken (state front spot) said o))
+    by : (o : Option ConfCause) → cause_of (said_at_place Global front) (said_for place front) said ≡ o
+        → Outcome front (says number place said notices) (noticed_step number notices (taken (state front spot) said o))
     by (Some cause) e = e
     by None e = record {
       good = e;
@@ -363,7 +434,8 @@ say_law front spot number place said notices at =
 
 -- ---- any line
 
-quiet_law : (front : List Standing) (spot : Spot) (number : ℕ) (place : Place) (said : SaidContent) → said.directive ≡ None → IsSpot (names_in front) place spot → Goes front (stand_so number place None (Some said)) (record { conf = notices_with number said.notices (configured front); spot = spot })
+quiet_law : (front : List Standing) (spot : Spot) (number : ℕ) (place : Place) (said : SaidContent) → said.directive ≡ None → IsSpot (names_in front) place spot
+    → Goes front (stand_so number place None (Some said)) (record { conf = notices_with number said.notices (configured front); spot = spot })
 unfolding cause_at
 quiet_law front spot number place said none at =
     let stands : Standing = stand_so number place None (Some said) in
@@ -373,7 +445,9 @@ quiet_law front spot number place said none at =
       at = subst (λ (ns : List Name). IsSpot ns place spot) (sym (names_more front stands None refl)) at;
     }
 
-heading_law : (front : List Standing) (place begun_place : Place) (spot : Spot) (number : ℕ) (said : SaidContent) → interface_of (Some begun_place) ≡ None → ((names : List Name) → IsSpot names begun_place spot) → Goes front (stand_so number place (Some begun_place) (Some said)) (record { conf = notices_with number said.notices (configured front); spot = spot })
+heading_law : (front : List Standing) (place begun_place : Place) (spot : Spot) (number : ℕ) (said : SaidContent) → interface_of (Some begun_place) ≡ None
+    → ((names : List Name) → IsSpot names begun_place spot)
+    → Goes front (stand_so number place (Some begun_place) (Some said)) (record { conf = notices_with number said.notices (configured front); spot = spot })
 unfolding cause_at
 heading_law front place begun_place spot number said nameless at =
     let stands : Standing = stand_so number place (Some begun_place) (Some said) in
@@ -387,14 +461,20 @@ bad_law : (front : List Standing) (number : ℕ) (place : Place) (begins : Optio
 unfolding cause_at
 bad_law front number place begins = refl
 
-pub step_law : (front : List Standing) (spot : Spot) (number : ℕ) (place : Place) (begins : Option Place) (said : Option SaidContent) → Chained Global front → IsSpot (names_in front) place spot → Outcome front (stand_so number place begins said) (step (state front spot) (stand_so number place begins said))
+pub step_law : (front : List Standing) (spot : Spot) (number : ℕ) (place : Place) (begins : Option Place) (said : Option SaidContent) → Chained Global front
+    → IsSpot (names_in front) place spot → Outcome front (stand_so number place begins said) (step (state front spot) (stand_so number place begins said))
 unfolding step
 step_law front spot number place begins None chain at = bad_law front number place begins
 step_law front spot number place None (Some said) chain at = by said.directive refl
   where
-    by : (o : Option DirectiveContent) → said.directive ≡ o → Outcome front (stand_so number place None (Some said)) (noticed_step number said.notices (directive_step (state front spot) o))
+    by : (o : Option DirectiveContent) → said.directive ≡ o
+        → Outcome front (stand_so number place None (Some said)) (noticed_step number said.notices (directive_step (state front spot) o))
     by None e = quiet_law front spot number place said e at
-    by (Some d) e = subst (λ (o : Option DirectiveContent). Outcome front (stand_so number place None (Some (record { directive = o; notices = said.notices }))) (noticed_step number said.notices (take_step (state front spot) d))) (sym e) (say_law front spot number place d said.notices at)
+    by (Some d) e =
+        subst
+        (λ (o : Option DirectiveContent). Outcome front (stand_so number place None (Some (record { directive = o; notices = said.notices })))
+        (noticed_step number said.notices (take_step (state front spot) d)))
+        (sym e) (say_law front spot number place d said.notices at)
 step_law front spot number place (Some Global) (Some said) chain at = heading_law front place Global Spots.Global number said refl (λ names. tt)
 step_law front spot number place (Some (Block name)) (Some said) chain at = enter_law front spot number place name said chain
 step_law front spot number place (Some Skipped) (Some said) chain at = heading_law front place Skipped Spots.Skipped number said refl (λ names. tt)
@@ -409,14 +489,17 @@ no_fault_after : (o : Option ConfFault) → option_or o None ≡ o
 no_fault_after None = refl
 no_fault_after (Some fault) = refl
 
-pub first_from_join : (before front more : List Standing) → first_from before (front ++ more) ≡ option_or (first_from before front) (first_from (before ++ front) more)
+pub first_from_join : (before front more : List Standing)
+    → first_from before (front ++ more) ≡ option_or (first_from before front) (first_from (before ++ front) more)
 first_from_join before [] more = ap (λ (f : List Standing). first_from f more) (sym (append-nil before))
 first_from_join before (first ∷ front) more =
     ap (option_or (fault_at before first)) (first_from_join (before ++ first ∷ []) front more)
-    ∙ ap (λ (f : List Standing). option_or (fault_at before first) (option_or (first_from (before ++ first ∷ []) front) (first_from f more))) (append_assoc before (first ∷ []) front)
+    ∙ ap (λ (f : List Standing). option_or (fault_at before first) (option_or (first_from (before ++ first ∷ []) front) (first_from f more)))
+    (append_assoc before (first ∷ []) front)
     ∙ faults_join (fault_at before first) (first_from (before ++ first ∷ []) front) (first_from (before ++ first ∷ front) more)
 
-fault_more : (front : List Standing) (stands : Standing) (o : Option ConfFault) → first_fault front ≡ None → fault_at front stands ≡ o → first_fault (front ++ stands ∷ []) ≡ o
+fault_more : (front : List Standing) (stands : Standing) (o : Option ConfFault) → first_fault front ≡ None → fault_at front stands ≡ o
+    → first_fault (front ++ stands ∷ []) ≡ o
 fault_more front stands o good e =
     first_from_join [] front (stands ∷ []) ∙ ap (λ p. option_or p (option_or (fault_at front stands) None)) good ∙ no_fault_after (fault_at front stands) ∙ e
 
@@ -433,7 +516,9 @@ pub record NextOf (front : List Standing) (line : Directive) (outcome : Result R
   pub here : Stands (place_of front) line stands
   pub goes : Outcome front stands outcome
 
-pub next_of : (lines rest : List Directive) (line : Directive) (so_far : ReadSoFar) (outcome : Result ReadSoFar ConfCause) (follows : Follows lines (line ∷ rest) so_far) → TakesLine so_far line outcome → NextOf follows.front line outcome
+pub next_of : (lines rest : List Directive) (line : Directive) (so_far : ReadSoFar) (outcome : Result ReadSoFar ConfCause)
+    (follows : Follows lines (line ∷ rest) so_far)
+    → TakesLine so_far line outcome → NextOf follows.front line outcome
 next_of lines rest line so_far outcome follows takes =
     let front : List Standing = follows.front in
     let took = takes (place_of front) (is_at (names_in front) (place_of front) so_far.spot follows.at) in
@@ -444,7 +529,8 @@ next_of lines rest line so_far outcome follows takes =
     let law = step_law front so_far.spot stands.number stands.place stands.begins stands.said (chained Global lines front (line ∷ rest) follows.stand) at in
     record { stands = stands; here = took.1; goes = subst (Outcome front stands) (sym (took.2 ∙ ap (λ (s : ReadSoFar). step s stands) so)) law }
 
-pub follows_more : (lines rest : List Directive) (line : Directive) (so_far next : ReadSoFar) → Follows lines (line ∷ rest) so_far → TakesLine so_far line (Ok next) → Follows lines rest next
+pub follows_more : (lines rest : List Directive) (line : Directive) (so_far next : ReadSoFar) → Follows lines (line ∷ rest) so_far
+    → TakesLine so_far line (Ok next) → Follows lines rest next
 follows_more lines rest line so_far next follows takes =
     let step = next_of lines rest line so_far (Ok next) follows takes in
     let front : List Standing = follows.front in
@@ -457,7 +543,8 @@ follows_more lines rest line so_far next follows takes =
       at = subst (λ p. IsSpot (names_in (front ++ step.stands ∷ [])) p next.spot) (sym (place_from_more Global front step.stands)) step.goes.at;
     }
 
-pub follows_fault : (lines rest : List Directive) (line : Directive) (so_far : ReadSoFar) (cause : ConfCause) → Follows lines (line ∷ rest) so_far → TakesLine so_far line (Err cause) → HasFault lines (fault line.number cause)
+pub follows_fault : (lines rest : List Directive) (line : Directive) (so_far : ReadSoFar) (cause : ConfCause) → Follows lines (line ∷ rest) so_far
+    → TakesLine so_far line (Err cause) → HasFault lines (fault line.number cause)
 follows_fault lines rest line so_far cause follows takes =
     let step = next_of lines rest line so_far (Err cause) follows takes in
     let front : List Standing = follows.front in

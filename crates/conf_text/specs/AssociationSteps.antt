@@ -36,15 +36,18 @@ abbrev pub with_association : (Association → List ShareConf) → Association �
 with_association shared one found = record { ias = found.ias ++ one.ia ∷ []; shares = found.shares ++ shared one }
 
 -- one line more, of which something is kept or not
-abbrev pub with_line : (index : ℕ) → (keeps : IaContent → Bool) → (Association → List ShareConf) → FoundContent → IaContent → FoundContent
+abbrev pub with_line : (index : ℕ) → (keeps : IaContent → Bool) → (Association → List ShareConf) → FoundContent
+    → IaContent → FoundContent
 with_line index keeps shared found line =
     if not (keeps line) || list_any (λ one. is_same_ia one (association index line).ia) found.ias
     then found
     else with_association shared (association index line) found
 
-abbrev pub with_lines : (index : ℕ) → (keeps : IaContent → Bool) → (Association → List ShareConf) → FoundContent → List IaContent → FoundContent
+abbrev pub with_lines : (index : ℕ) → (keeps : IaContent → Bool) → (Association → List ShareConf) → FoundContent
+    → List IaContent → FoundContent
 with_lines index keeps shared found [] = found
-with_lines index keeps shared found (line ∷ lines) = with_lines index keeps shared (with_line index keeps shared found line) lines
+with_lines index keeps shared found (line ∷ lines) =
+    with_lines index keeps shared (with_line index keeps shared found line) lines
 
 -- ---- those of an interface
 
@@ -62,7 +65,8 @@ abbrev pub line_in : Subject → FoundContent → IaContent → FoundContent
 line_in subject found line = with_line subject.spec.now.index.number (keeps_in subject) (shared_in subject) found line
 
 abbrev pub lines_in : Subject → FoundContent → List IaContent → FoundContent
-lines_in subject found lines = with_lines subject.spec.now.index.number (keeps_in subject) (shared_in subject) found lines
+lines_in subject found lines =
+    with_lines subject.spec.now.index.number (keeps_in subject) (shared_in subject) found lines
 
 -- ---- shares of a line
 

@@ -31,7 +31,8 @@ spec_named specs name = find (λ spec. is_named name spec.name) specs
 
 -- an interface without a block has one that says nothing
 abbrev pub scope_for : List BlockContent → Name → ScopeContent
-scope_for blocks name = unwrap_or (option_map (λ block. block.scope) (find (λ block. is_named name block.name) blocks)) (scope_of [])
+scope_for blocks name =
+    unwrap_or (option_map (λ block. block.scope) (find (λ block. is_named name block.name) blocks)) (scope_of [])
 
 -- the block before the global lines
 abbrev pub first_said : {X : Type 0} → (block global : Option X) → Option X

@@ -61,10 +61,12 @@ configured lines = record {
   notices = flat_map notices_of lines;
 }
 
--- Without a fault all lines stand so, and say this. A fault among the first lines is that of all; where there is none, and no
--- more lines of text, it is the line that isn't text.
-abbrev pub Tells : (front : List Standing) → (rest : List Directive) → Option ℕ → Result Configuration ConfFault → Type 0
-Tells front rest number (Ok conf) = (rest ≡ []) × (first_fault front ≡ None) × (number ≡ None) × (conf ≡ configured front)
+-- Without a fault all lines stand so, and say this. A fault among the first lines is that of all; where there is none,
+-- and no more lines of text, it is the line that isn't text.
+abbrev pub Tells : (front : List Standing) → (rest : List Directive) → Option ℕ → Result Configuration ConfFault
+    → Type 0
+Tells front rest number (Ok conf) =
+    (rest ≡ []) × (first_fault front ≡ None) × (number ≡ None) × (conf ≡ configured front)
 Tells front rest number (Err fault) =
     (first_fault front ≡ Some fault) ⊎ ((rest ≡ []) × (first_fault front ≡ None) × (not_text number ≡ Some fault))
 

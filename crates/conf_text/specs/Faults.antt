@@ -51,7 +51,8 @@ abbrev pub cause_of_heading : List Name → Option Name → Option ConfCause
 cause_of_heading names name = if is_one_too_many names name then Some TooMany else None
 
 abbrev pub cause_among : List Standing → Standing → Option Place → SaidContent → Option ConfCause
-cause_among front stands None said = cause_of_said (said_at_place Global front) (said_for stands.place front) said.directive
+cause_among front stands None said =
+    cause_of_said (said_at_place Global front) (said_for stands.place front) said.directive
 cause_among front stands (Some place) said = cause_of_heading (names_in front) (interface_of (Some place))
 
 abbrev pub cause_by : List Standing → Standing → Option SaidContent → Option ConfCause

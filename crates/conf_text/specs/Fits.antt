@@ -23,4 +23,6 @@ pub record AreInForce (managed : List Managed) : Type 0 where
   pub shares : SharesAreManaged managed
 
 abbrev pub SettingsFit : Type 0
-SettingsFit = (text : List ℕ) (conf : Configuration) → IsConfOf text (Ok conf) → (specs : List IfSpec) → AllByRecursion FitsSpec specs → AreInForce (managed_of conf specs)
+SettingsFit =
+    (text : List ℕ) (conf : Configuration) → IsConfOf text (Ok conf) → (specs : List IfSpec)
+    → AllByRecursion FitsSpec specs → AreInForce (managed_of conf specs)

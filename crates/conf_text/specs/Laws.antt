@@ -9,7 +9,8 @@ use Rattle.conf_text.specs.Faults.{first_fault}
 use Rattle.conf_text.specs.Standings.{Standing, Stand}
 
 abbrev pub ConfigurationIsOne : Type 0
-ConfigurationIsOne = (text : List ℕ) (one other : Result Configuration ConfFault) → IsConfOf text one → IsConfOf text other → one ≡ other
+ConfigurationIsOne =
+    (text : List ℕ) (one other : Result Configuration ConfFault) → IsConfOf text one → IsConfOf text other → one ≡ other
 
 -- the fault named is the text's first one
 abbrev pub Refuses : List ℕ → ConfAnswer → Type 0
@@ -18,7 +19,8 @@ Refuses text NoMemory = Unit {0}
 
 -- lines without a fault say this
 abbrev pub AreLinesOf : List Directive → Configuration → Type 0
-AreLinesOf lines conf = (front : List Standing) × Stand lines front [] × (first_fault front ≡ None) × (conf ≡ configured front)
+AreLinesOf lines conf =
+    (front : List Standing) × Stand lines front [] × (first_fault front ≡ None) × (conf ≡ configured front)
 
 pub record HasFault (lines : List Directive) (fault : ConfFault) : Type 0 where
   pub front : List Standing

@@ -1,4 +1,5 @@
--- Where a line of a configuration stands: in front of all blocks, in the block of an interface, or in one that is skipped.
+-- Where a line of a configuration stands: in front of all blocks, in the block of an interface, or in one that is
+-- skipped.
 use Rattle.std.specs.Prelude.{Bool, true, false, Option, Some, None, bytes_eq}
 use Rattle.net_types.specs.declared.interface.Name.{Name}
 use Rattle.net_types.specs.NameText.{name_text}

@@ -81,7 +81,8 @@ abbrev pub variable_said : EnvContent → Variable
 variable_said env = record { name = env.name; value = env.value }
 
 abbrev pub hooks_in_force : (script : Option (List ℕ)) → (global block : ScopeContent) → HookSettings
-hooks_in_force script global block = record { script = script_in_force script; env = map variable_said (global.env ++ block.env) }
+hooks_in_force script global block =
+    record { script = script_in_force script; env = map variable_said (global.env ++ block.env) }
 
 -- single values are the block's, else the global ones; flags are on in either
 abbrev pub in_force : Dhcp6Settings → HookSettings → (global block : ScopeContent) → IfConf

@@ -23,7 +23,8 @@ sla_of specs line = option_or line.sla (option_map (λ spec. spec.index.number) 
 
 -- none where it isn't written, and there is no such interface
 abbrev pub share_of : List IfSpec → (hint : ℕ) → ShareLine → Option Share
-share_of specs hint line = option_map (λ sla. record { name = line.name; sla = sla; len = line.len; hint = hint }) (sla_of specs line)
+share_of specs hint line =
+    option_map (λ sla. record { name = line.name; sla = sla; len = line.len; hint = hint }) (sla_of specs line)
 
 -- one more, where the rules let it stand after those that are taken
 abbrev pub taken_with : List Share → Share → List Share
@@ -42,14 +43,16 @@ shares_taken specs hint lines = taken_after [] (filter_map (share_of specs hint)
 -- the metric that is said, else 1000 and the index, as far as there are metrics
 abbrev pub metric_for : Configuration → IfSpec → ℕ
 metric_for conf spec =
-    unwrap_or (first_said (scope_for conf.blocks spec.name).metric conf.global.metric) (min (METRIC_BASE + spec.index.number) (2 ^ 32 - 1))
+    unwrap_or (first_said (scope_for conf.blocks spec.name).metric conf.global.metric)
+    (min (METRIC_BASE + spec.index.number) (2 ^ 32 - 1))
 
 abbrev pub outlet_of : Configuration → IfSpec → Outlet
 outlet_of conf spec = record { iface = spec.index; metric = metric_for conf spec }
 
 -- rows of a share lead to an interface that is managed, and isn't the upstream one
 abbrev pub outlet_by : Configuration → (upstream : Name) → IfSpec → Option Outlet
-outlet_by conf upstream spec = if is_managed conf spec.name && not (is_named upstream spec.name) then Some (outlet_of conf spec) else None
+outlet_by conf upstream spec =
+    if is_managed conf spec.name && not (is_named upstream spec.name) then Some (outlet_of conf spec) else None
 
 abbrev pub share_with : (iaid : ℕ) → Share → Outlet → ShareConf
 share_with iaid share outlet = record { iaid = iaid; share = share; outlet = outlet }

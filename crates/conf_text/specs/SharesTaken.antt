@@ -7,9 +7,11 @@ use Rattle.conf_text.specs.Shares.{share_of, shares_taken}
 
 -- they obey the rules
 abbrev pub TakenArePlanned : Type 0
-TakenArePlanned = (specs : List IfSpec) (hint : ℕ) (lines : List ShareLine) → is_plan (shares_taken specs hint lines) ≡ true
+TakenArePlanned =
+    (specs : List IfSpec) (hint : ℕ) (lines : List ShareLine) → is_plan (shares_taken specs hint lines) ≡ true
 
 -- where all obey the rules, none is left out
 abbrev pub PlannedAreTaken : Type 0
 PlannedAreTaken = (specs : List IfSpec) (hint : ℕ) (lines : List ShareLine)
-    → is_plan (filter_map (share_of specs hint) lines) ≡ true → shares_taken specs hint lines ≡ filter_map (share_of specs hint) lines
+    → is_plan (filter_map (share_of specs hint) lines) ≡ true
+    → shares_taken specs hint lines ≡ filter_map (share_of specs hint) lines

@@ -46,10 +46,12 @@ abbrev pub of_interface : Place → Directive → Option Name → Standing
 of_interface place line name = standing place line (option_map Block name) (option_map (λ _. nothing) name)
 
 abbrev pub StandsUnder : Option HeadingName → Place → Directive → Standing → Type 0
-StandsUnder (Some Interface) place line stands = (name : Option Name) × IsOfInterface line.about name × (stands ≡ of_interface place line name)
+StandsUnder (Some Interface) place line stands =
+    (name : Option Name) × IsOfInterface line.about name × (stands ≡ of_interface place line name)
 StandsUnder (Some Profile) place line stands = stands ≡ standing place line (Some Skipped) (Some (noticed line.word))
 StandsUnder (Some Ssid) place line stands = stands ≡ standing place line (Some Skipped) (Some (noticed line.word))
-StandsUnder None place line stands = (said : Option SaidContent) × SaysAt place line said × (stands ≡ standing place line None said)
+StandsUnder None place line stands =
+    (said : Option SaidContent) × SaysAt place line said × (stands ≡ standing place line None said)
 
 -- a line after lines that leave it at a place
 abbrev pub Stands : Place → Directive → Standing → Type 0
@@ -70,7 +72,8 @@ place_of front = place_from Global front
 abbrev pub StandFrom : Place → List Directive → List Standing → List Directive → Type 0
 StandFrom place lines [] rest = lines ≡ rest
 StandFrom place [] (stands ∷ others) rest = ⊥
-StandFrom place (line ∷ lines) (stands ∷ others) rest = Stands place line stands × StandFrom (place_after stands) lines others rest
+StandFrom place (line ∷ lines) (stands ∷ others) rest =
+    Stands place line stands × StandFrom (place_after stands) lines others rest
 
 abbrev pub Stand : List Directive → List Standing → List Directive → Type 0
 Stand lines front rest = StandFrom Global lines front rest

@@ -49,7 +49,8 @@ flags_with on None = on
 flags_with on (Some name) = with_flag name on
 
 abbrev pub both_codes : CodesContent → CodesContent → CodesContent
-both_codes one other = record { codes = one.codes ++ other.codes; rapid = one.rapid || other.rapid; words = one.words + other.words }
+both_codes one other =
+    record { codes = one.codes ++ other.codes; rapid = one.rapid || other.rapid; words = one.words + other.words }
 
 abbrev pub codes_with : CodesContent → Option CodesContent → CodesContent
 codes_with codes None = codes
@@ -178,7 +179,8 @@ with_block name so_far = record {
 
 abbrev pub entered : ReadSoFar → Name → Option ℕ → Result ReadSoFar ConfCause
 entered so_far name (Some place) = Ok (record { conf = so_far.conf; spot = Spots.Block place })
-entered so_far name None = if nat_le MOST_BLOCKS (length so_far.conf.blocks) then Err TooMany else Ok (with_block name so_far)
+entered so_far name None =
+    if nat_le MOST_BLOCKS (length so_far.conf.blocks) then Err TooMany else Ok (with_block name so_far)
 
 abbrev pub enter : ReadSoFar → Name → Result ReadSoFar ConfCause
 enter so_far name = entered so_far name (first_place (λ block. is_named name block.name) so_far.conf.blocks)
@@ -197,11 +199,14 @@ block_now so_far = block_at so_far.conf.blocks so_far.spot
 
 -- what the words of options come to can be counted
 abbrev pub FitsNow : ReadSoFar → DirectiveContent → Type 0
-FitsNow so_far said = FitsWords so_far.conf.global said × IfSome (block_now so_far) (λ block. FitsWords block.scope said)
+FitsNow so_far said =
+    FitsWords so_far.conf.global said × IfSome (block_now so_far) (λ block. FitsWords block.scope said)
 
 -- what is wrong with a directive after these associations and so much, of global lines and of a block
 abbrev pub cause_between : List IaLine × List IaLine → Counts × Counts → RustDirective → Option ConfCause
-cause_between ias counts directive = cause_from (map ia_content ias.0 ++ map ia_content ias.1) (both_counts counts.0 counts.1) (directive_content directive)
+cause_between ias counts directive =
+    cause_from (map ia_content ias.0 ++ map ia_content ias.1) (both_counts counts.0 counts.1)
+    (directive_content directive)
 
 abbrev pub cause_now : ReadSoFar → DirectiveContent → Option ConfCause
 cause_now so_far said =
@@ -263,10 +268,13 @@ IsAt _ _ = ⊥
 
 -- it takes what a line says
 abbrev pub TakesSaid : ReadSoFar → Directive → Result ReadSoFar ConfCause → Type 0
-TakesSaid so_far line outcome = (said : Option SaidContent) × Says line.word line.about said × (outcome ≡ step_by so_far line.number None said)
+TakesSaid so_far line outcome =
+    (said : Option SaidContent) × Says line.word line.about said × (outcome ≡ step_by so_far line.number None said)
 
 abbrev pub TakesLine : ReadSoFar → Directive → Result ReadSoFar ConfCause → Type 0
-TakesLine so_far line outcome = (place : Place) → IsAt place so_far.spot → (stands : Standing) × Stands place line stands × (outcome ≡ step so_far stands)
+TakesLine so_far line outcome =
+    (place : Place) → IsAt place so_far.spot
+    → (stands : Standing) × Stands place line stands × (outcome ≡ step so_far stands)
 
 -- an answer is of the line's cause
 abbrev pub AnswersWith : (Result ReadSoFar ConfCause → Type 0) → ℕ → ConfAnswer → Type 0

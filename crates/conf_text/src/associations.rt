@@ -30,7 +30,8 @@ fn ia_with(index: u32, line: &IaLine) -> IaConf
     }
 }
 
-/// Whether a line among the global ones and those of a block is kept: its IAID is written, or the index isn't as that of its kind.
+/// Whether a line among the global ones and those of a block is kept: its IAID is written, or the index isn't as that
+/// of its kind.
 #[tactic(auto, using(crate::proofs::ListLaws::any_of_both))]
 fn is_kept(index: u32, lines: (&[IaLine], &[IaLine]), line: &IaLine) -> bool
     ensures { result ≡ is_kept index (contents (lines.entry.0.now, lines.entry.1.now)) (ia_content line.now) }
@@ -68,7 +69,10 @@ fn add_association(
     ia: IaConf,
     shares: &[ShareLine],
 ) -> Result<(), NoMemory>
-    ensures { OnOk result (found_content found.new ≡ with_association (shared_in subject.now) (record { ia = ia; shares = shares.now }) (found_content found.old)) }
+    ensures { OnOk result
+        (found_content found.new
+        ≡ with_association (shared_in subject.now) (record { ia = ia; shares = shares.now })
+        (found_content found.old)) }
 {
     let shares = shared_by(alloc, subject, ia, shares)?;
     found.ias.push(ia)?;
@@ -83,7 +87,8 @@ fn add_line(
     found: &mut Found,
     line: &IaLine,
 ) -> Result<(), NoMemory>
-    ensures { OnOk result (found_content found.new ≡ line_in subject.now (found_content found.old) (ia_content line.now)) }
+    ensures { OnOk result
+        (found_content found.new ≡ line_in subject.now (found_content found.old) (ia_content line.now)) }
 {
     let ia = ia_with(subject.spec.index.number, line);
     if !is_kept_in(subject, line) || is_among(&found.ias, &ia) {
@@ -99,7 +104,8 @@ fn add_lines(
     found: &mut Found,
     lines: &[IaLine],
 ) -> Result<(), NoMemory>
-    ensures { OnOk result (found_content found.new ≡ lines_in subject.now (found_content found.old) (map ia_content lines.now)) }
+    ensures { OnOk result
+        (found_content found.new ≡ lines_in subject.now (found_content found.old) (map ia_content lines.now)) }
 {
     for line in lines {
         add_line(alloc, subject, found, line)?;
@@ -109,7 +115,10 @@ fn add_lines(
 
 /// What the global lines and those of its block come to on an interface.
 pub fn associations_of(alloc: Global, subject: &Subject<'_>) -> Result<Found, NoMemory>
-    ensures { IfOk result (λ found. found_content found ≡ found_of (shared_in subject.now) (associations subject.now.spec.now.index.number (lines_of subject.now))) }
+    ensures { IfOk result
+        (λ found. found_content found
+        ≡ found_of (shared_in subject.now)
+        (associations subject.now.spec.now.index.number (lines_of subject.now))) }
 {
     let mut found = Found {
         ias: Vec::new(alloc),

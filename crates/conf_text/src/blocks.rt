@@ -26,14 +26,17 @@ pub fn place_of(blocks: &Blocks, name: &Name) -> Option<usize>
 
 /// What the blocks of an interface say, where it has some.
 pub fn said_of<'a>(blocks: &'a Blocks, name: &Name) -> Option<&'a Scope>
-    ensures { option_map scope_content (option_copied result) ≡ option_map (λ block. block.scope) (find (λ block. is_named name.now block.name) (map block_content blocks.now.entries)) }
+    ensures { option_map scope_content (option_copied result)
+        ≡ option_map (λ block. block.scope)
+        (find (λ block. is_named name.now block.name) (map block_content blocks.now.entries)) }
 {
     blocks.get(&BlockName { name: *name })
 }
 
 /// What the block of this place says.
 pub fn said_at(blocks: &Blocks, place: usize) -> Option<&Scope>
-    ensures { option_map scope_content (option_copied result) ≡ option_map (λ block. block.scope) (slice_get (map block_content blocks.now.entries) place) }
+    ensures { option_map scope_content (option_copied result)
+        ≡ option_map (λ block. block.scope) (slice_get (map block_content blocks.now.entries) place) }
 {
     let (_, scope) = blocks.get_index(place)?;
     Some(scope)
@@ -42,7 +45,9 @@ pub fn said_at(blocks: &Blocks, place: usize) -> Option<&Scope>
 /// Begins the first block of an interface.
 pub fn begin(alloc: Global, blocks: &mut Blocks, name: Name) -> Result<(), NoMemory>
     requires { first_place (λ block. is_named name block.name) (map block_content blocks.old.entries) ≡ None }
-    ensures { OnOk result (map block_content blocks.new.entries ≡ map block_content blocks.old.entries ++ record { name = name; scope = scope_of [] } ∷ []) }
+    ensures { OnOk result
+        (map block_content blocks.new.entries
+        ≡ map block_content blocks.old.entries ++ record { name = name; scope = scope_of [] } ∷ []) }
 {
     blocks.insert(BlockName { name }, Scope::empty(alloc))?;
     Ok(())
@@ -50,8 +55,11 @@ pub fn begin(alloc: Global, blocks: &mut Blocks, name: Name) -> Result<(), NoMem
 
 /// Takes what one line more of a block says.
 pub fn say_at(blocks: &mut Blocks, place: usize, directive: Directive) -> Result<(), NoMemory>
-    requires { IfSome (slice_get (map block_content blocks.old.entries) place) (λ block. FitsWords block.scope (directive_content directive)) }
-    ensures { OnOk result (map block_content blocks.new.entries ≡ say_at place (directive_content directive) (map block_content blocks.old.entries)) }
+    requires { IfSome (slice_get (map block_content blocks.old.entries) place)
+        (λ block. FitsWords block.scope (directive_content directive)) }
+    ensures { OnOk result
+        (map block_content blocks.new.entries
+        ≡ say_at place (directive_content directive) (map block_content blocks.old.entries)) }
 {
     if place < blocks.len() {
         blocks[place].say(directive)

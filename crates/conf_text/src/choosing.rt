@@ -44,7 +44,9 @@ pub fn spec_named<'a>(ifaces: &'a [IfSpec], name: &Name) -> Option<&'a IfSpec>
 
 /// The metric that is said of an interface: its block's, else the global one.
 pub fn metric_said(conf: &Conf, name: &Name) -> Option<u32>
-    ensures { result ≡ first_said (scope_for (configuration conf.now).blocks name.now).metric (configuration conf.now).global.metric }
+    ensures { result
+        ≡ first_said (scope_for (configuration conf.now).blocks name.now).metric
+        (configuration conf.now).global.metric }
 {
     match said_of(&conf.blocks, name) {
         Some(block) => block.metric.or(conf.global.metric),

@@ -54,7 +54,8 @@ fn add_notice(
     line: u32,
     word: &[u8],
 ) -> Result<(), NoMemory>
-    ensures { OnOk result (map notice_content notices.new.items ≡ map notice_content notices.old.items ++ notice_of line word.now ∷ []) }
+    ensures { OnOk result
+        (map notice_content notices.new.items ≡ map notice_content notices.old.items ++ notice_of line word.now ∷ []) }
 {
     let word = String::from_utf8_lossy(alloc, word)?;
     notices.push(Notice { line, word })?;
@@ -67,7 +68,9 @@ fn add_notices(
     line: u32,
     words: &[&[u8]],
 ) -> Result<(), NoMemory>
-    ensures { OnOk result (map notice_content notices.new.items ≡ map notice_content notices.old.items ++ map (notice_of line) (map (λ word. word.now) words.now)) }
+    ensures { OnOk result
+        (map notice_content notices.new.items
+        ≡ map notice_content notices.old.items ++ map (notice_of line) (map (λ word. word.now) words.now)) }
 {
     for word in words {
         add_notice(alloc, notices, line, word)?;
@@ -119,7 +122,8 @@ impl Conf {
         number: usize,
         words: &[&[u8]],
     ) -> Result<(), NoMemory>
-        ensures { OnOk result (configuration self.new ≡ notices_with number (map (λ word. word.now) words.now) (configuration self.old)) }
+        ensures { OnOk result
+            (configuration self.new ≡ notices_with number (map (λ word. word.now) words.now) (configuration self.old)) }
     {
         add_notices(alloc, &mut self.notices, line_number(number), words)
     }
@@ -128,7 +132,8 @@ impl Conf {
     #[tactic(auto, unfolding(crate::specs::Steps::scope_with))]
     pub(crate) fn say(&mut self, directive: Directive) -> Result<(), NoMemory>
         requires { FitsWords (scope_content self.old.global) (directive_content directive) }
-        ensures { OnOk result (configuration self.new ≡ global_with (directive_content directive) (configuration self.old)) }
+        ensures { OnOk result
+            (configuration self.new ≡ global_with (directive_content directive) (configuration self.old)) }
     {
         match directive {
             Directive::Interfaces(InterfaceList::Allowed, patterns) => {

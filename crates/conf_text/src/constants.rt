@@ -6,8 +6,8 @@ use crate::counting::{MOST_BLOCKS, MOST_IAS, MOST_MEMBERS, MOST_SHARES, MOST_WOR
 use crate::managing::{DEFAULT_REBOOT, DEFAULT_TIMEOUT};
 use crate::sharing::METRIC_BASE;
 
-/// Law: how much a configuration may have of each kind, and what is in force where it says nothing: a timeout of 30 and a
-/// reboot of 5 seconds, and metrics from 1000 on.
+/// Law: how much a configuration may have of each kind, and what is in force where it says nothing: a timeout of 30 and
+/// a reboot of 5 seconds, and metrics from 1000 on.
 pub fn bounds_of_a_configuration()
     ensures most_blocks { MOST_BLOCKS ≡ 64 }
     ensures most_words { MOST_WORDS ≡ 64 }

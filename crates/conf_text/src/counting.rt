@@ -157,7 +157,8 @@ pub fn has_ia(kind: IaKind, iaid: u32, ias: &[IaLine]) -> bool
 /// Whether a line is an identity association whose kind and written IAID stand already.
 #[tactic(auto, using(crate::proofs::ListLaws::any_of_both))]
 pub fn is_repeated(global: &[IaLine], block: &[IaLine], directive: &Directive) -> bool
-    ensures { result ≡ is_repeated (map ia_content global.now ++ map ia_content block.now) (directive_content directive.now) }
+    ensures { result
+        ≡ is_repeated (map ia_content global.now ++ map ia_content block.now) (directive_content directive.now) }
 {
     match directive {
         Directive::Ia(ia) => match ia.iaid {

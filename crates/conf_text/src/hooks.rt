@@ -45,7 +45,9 @@ fn variable_said(alloc: Global, env: &Env) -> Result<HookVar, AllocError>
 }
 
 fn add_env(into: &mut Vec<HookVar>, env: &[Env]) -> Result<(), AllocError>
-    ensures { OnOk result (map variable_of into.new.items ≡ map variable_of into.old.items ++ map (λ said. variable_said (env_content said)) env.now) }
+    ensures { OnOk result
+        (map variable_of into.new.items
+        ≡ map variable_of into.old.items ++ map (λ said. variable_said (env_content said)) env.now) }
 {
     let alloc = *into.allocator();
     for said in env {
@@ -55,7 +57,9 @@ fn add_env(into: &mut Vec<HookVar>, env: &[Env]) -> Result<(), AllocError>
 }
 
 fn env_in_force(alloc: Global, global: &[Env], block: &[Env]) -> Result<Vec<HookVar>, AllocError>
-    ensures { IfOk result (λ env. map variable_of env.items ≡ map variable_said (map env_content global.now ++ map env_content block.now)) }
+    ensures { IfOk result
+        (λ env. map variable_of env.items
+        ≡ map variable_said (map env_content global.now ++ map env_content block.now)) }
 {
     let mut env = Vec::new(alloc);
     add_env(&mut env, global)?;
@@ -65,7 +69,10 @@ fn env_in_force(alloc: Global, global: &[Env], block: &[Env]) -> Result<Vec<Hook
 
 /// What is run at the events of an interface, and with which variables.
 pub fn hooks_in_force(alloc: Global, conf: &Conf, block: &Scope) -> Result<HookConf, NoMemory>
-    ensures { IfOk result (λ hooks. hooks ≡ hooks_in_force (configuration conf.now).script (configuration conf.now).global (scope_content block.now)) }
+    ensures { IfOk result
+        (λ hooks. hooks
+        ≡ hooks_in_force (configuration conf.now).script (configuration conf.now).global
+        (scope_content block.now)) }
 {
     Ok(HookConf {
         script: script_in_force(alloc, &conf.script)?,

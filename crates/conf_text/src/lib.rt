@@ -1,5 +1,5 @@
-//! A whole configuration (dhcpcd.conf(5)): what it says in front of all blocks and for each interface, its first fault, the
-//! words that do nothing, and what is in force for an interface.
+//! A whole configuration (dhcpcd.conf(5)): what it says in front of all blocks and for each interface, its first fault,
+//! the words that do nothing, and what is in force for an interface.
 //!
 //! `read_conf` reads a text, in one pass. `settings` and `managed` say what it sets for interfaces.
 #![tactic(auto)]

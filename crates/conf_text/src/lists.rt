@@ -11,7 +11,9 @@ pub fn list_of<T: Copy>(
     block: &Option<Vec<T>>,
     global: &Option<Vec<T>>,
 ) -> Result<Vec<T>, NoMemory>
-    ensures { IfOk result (λ list. list.items ≡ list_or_none (option_map (λ l. l.items) block.now) (option_map (λ l. l.items) global.now)) }
+    ensures { IfOk result
+        (λ list. list.items
+        ≡ list_or_none (option_map (λ l. l.items) block.now) (option_map (λ l. l.items) global.now)) }
 {
     match (block, global) {
         (Some(list), _) => Ok(Vec::from_slice(alloc, list)?),

@@ -30,7 +30,8 @@ pub(crate) const DEFAULT_REBOOT: u32 = 5;
 
 /// What tells the client apart: the hardware address where no line says it.
 fn identifier_of(alloc: Global, identifier: &Option<IdentifierSaid>) -> Result<Identifier, NoMemory>
-    ensures { IfOk result (λ said. identifier_in said ≡ identifier_or_hardware (option_map identifier_content identifier.now)) }
+    ensures { IfOk result
+        (λ said. identifier_in said ≡ identifier_or_hardware (option_map identifier_content identifier.now)) }
 {
     match identifier {
         Some(IdentifierSaid::Bytes(bytes)) => Ok(Identifier::Bytes(bytes.to_vec(alloc)?)),
@@ -60,7 +61,10 @@ fn dhcp4_in_force(alloc: Global, global: &Scope, block: &Scope) -> Result<Dhcp4C
 
 /// What is in force for the DHCPv6 client of an interface.
 fn dhcp6_in_force(alloc: Global, subject: &Subject<'_>) -> Result<Dhcp6Conf, NoMemory>
-    ensures { IfOk result (λ conf. conf ≡ dhcp6_in_force (configuration subject.now.conf.now) subject.now.ifaces.now subject.now.spec.now (scope_content subject.now.block.now)) }
+    ensures { IfOk result
+        (λ conf. conf
+        ≡ dhcp6_in_force (configuration subject.now.conf.now) subject.now.ifaces.now subject.now.spec.now
+        (scope_content subject.now.block.now)) }
 {
     let rapid = subject.conf.global.asked.rapid || subject.block.asked.rapid;
     let Found { ias, shares } = associations_of(alloc, subject)?;
@@ -77,7 +81,9 @@ fn first_router(routers: &Option<Vec<Ip4>>) -> Option<Ip4>
 }
 
 fn router_in_force(block: &Option<Vec<Ip4>>, global: &Option<Vec<Ip4>>) -> Option<Ip4>
-    ensures { result ≡ option_and_then first_router (first_said (option_map (λ r. r.items) block.now) (option_map (λ r. r.items) global.now)) }
+    ensures { result
+        ≡ option_and_then first_router
+        (first_said (option_map (λ r. r.items) block.now) (option_map (λ r. r.items) global.now)) }
 {
     if block.is_some() {
         first_router(block)
@@ -125,7 +131,10 @@ fn in_force(
 }
 
 fn in_force_among(alloc: Global, subject: &Subject<'_>) -> Result<IfConf, NoMemory>
-    ensures { IfOk result (λ conf. conf ≡ in_force_among (configuration subject.now.conf.now) subject.now.ifaces.now subject.now.spec.now (scope_content subject.now.block.now)) }
+    ensures { IfOk result
+        (λ conf. conf
+        ≡ in_force_among (configuration subject.now.conf.now) subject.now.ifaces.now subject.now.spec.now
+        (scope_content subject.now.block.now)) }
 {
     let dhcp6 = dhcp6_in_force(alloc, subject)?;
     let hooks = hooks_in_force(alloc, subject.conf, subject.block)?;

@@ -57,7 +57,8 @@ fn cause_of(
     counts: (&Counts, &Counts),
     directive: &Directive,
 ) -> Option<ConfCause>
-    ensures { result ≡ cause_between (ias.entry.0.now, ias.entry.1.now) (counts.entry.0.now, counts.entry.1.now) directive.now }
+    ensures { result
+        ≡ cause_between (ias.entry.0.now, ias.entry.1.now) (counts.entry.0.now, counts.entry.1.now) directive.now }
 {
     if is_repeated(ias.0, ias.1, directive) {
         Some(ConfCause::Repeated)
@@ -93,7 +94,8 @@ impl Reader {
     /// Lets the block of an interface begin or go on.
     fn enter(&mut self, alloc: Global, number: usize, name: Name) -> Result<(), ConfAnswer>
         ensures ok { OnOk result (enter (read_so_far self.old) name ≡ Ok (read_so_far self.new)) }
-        ensures bad { IfErr result (λ answer. AnswersWith (λ outcome. enter (read_so_far self.old) name ≡ outcome) number answer) }
+        ensures bad { IfErr result
+            (λ answer. AnswersWith (λ outcome. enter (read_so_far self.old) name ≡ outcome) number answer) }
     {
         if let Some(place) = place_of(&self.conf.blocks, &name) {
             self.spot = Spot::Block(place);
@@ -108,7 +110,8 @@ impl Reader {
 
     /// What the block says where lines stand.
     fn block(&self) -> Option<&Scope>
-        ensures { option_map scope_content (option_copied result) ≡ option_map (λ block. block.scope) (block_now (read_so_far self.now)) }
+        ensures { option_map scope_content (option_copied result)
+            ≡ option_map (λ block. block.scope) (block_now (read_so_far self.now)) }
     {
         match self.spot {
             Spot::Block(place) => said_at(&self.conf.blocks, place),
@@ -118,7 +121,13 @@ impl Reader {
 
     fn say(&mut self, directive: Directive) -> Result<(), NoMemory>
         requires { FitsNow (read_so_far self.old) (directive_content directive) }
-        ensures { OnOk result (read_so_far self.new ≡ record (read_so_far self.old) { conf = say_now self.old.spot (directive_content directive) (configuration self.old.conf) }) }
+        ensures { OnOk result
+            (read_so_far self.new
+            ≡ record
+            (read_so_far self.old) {
+              conf = say_now self.old.spot (directive_content directive)
+                  (configuration self.old.conf);
+            }) }
     {
         match self.spot {
             Spot::Global => self.conf.say(directive),
@@ -148,8 +157,12 @@ impl Reader {
     /// Takes what a line says.
     #[tactic(auto, unfolding(crate::specs::Steps::take_step))]
     fn take(&mut self, number: usize, directive: Directive) -> Result<(), ConfAnswer>
-        ensures ok { OnOk result (take_step (read_so_far self.old) (directive_content directive) ≡ Ok (read_so_far self.new)) }
-        ensures bad { IfErr result (λ answer. AnswersWith (λ outcome. take_step (read_so_far self.old) (directive_content directive) ≡ outcome) number answer) }
+        ensures ok { OnOk result
+            (take_step (read_so_far self.old) (directive_content directive) ≡ Ok (read_so_far self.new)) }
+        ensures bad { IfErr result
+            (λ answer. AnswersWith
+            (λ outcome. take_step (read_so_far self.old) (directive_content directive) ≡ outcome) number
+            answer) }
     {
         if let Some(cause) = self.cause_of(&directive) {
             return Err(ConfAnswer::Bad(fault_at(number, cause)));
@@ -159,8 +172,14 @@ impl Reader {
     }
 
     fn take_any(&mut self, number: usize, directive: Option<Directive>) -> Result<(), ConfAnswer>
-        ensures ok { OnOk result (directive_step (read_so_far self.old) (option_map directive_content directive) ≡ Ok (read_so_far self.new)) }
-        ensures bad { IfErr result (λ answer. AnswersWith (λ outcome. directive_step (read_so_far self.old) (option_map directive_content directive) ≡ outcome) number answer) }
+        ensures ok { OnOk result
+            (directive_step (read_so_far self.old) (option_map directive_content directive)
+            ≡ Ok (read_so_far self.new)) }
+        ensures bad { IfErr result
+            (λ answer. AnswersWith
+            (λ outcome. directive_step (read_so_far self.old) (option_map directive_content directive)
+            ≡ outcome)
+            number answer) }
     {
         match directive {
             Some(directive) => self.take(number, directive),
@@ -171,7 +190,9 @@ impl Reader {
     /// Takes a line that isn't skipped, with its notices.
     fn read_said(&mut self, alloc: Global, line: &Line<'_>) -> Result<(), ConfAnswer>
         ensures ok { OnOk result (TakesSaid (read_so_far self.old) (shown_line line.now) (Ok (read_so_far self.new))) }
-        ensures bad { IfErr result (λ answer. AnswersWith (TakesSaid (read_so_far self.old) (shown_line line.now)) line.now.number answer) }
+        ensures bad { IfErr result
+            (λ answer. AnswersWith
+            (TakesSaid (read_so_far self.old) (shown_line line.now)) line.now.number answer) }
     {
         let Some(said) = directive_said(alloc, *line)? else {
             return Err(ConfAnswer::Bad(fault_at(line.number, ConfCause::BadArgument)));
@@ -186,7 +207,9 @@ impl Reader {
     fn read_directive(&mut self, alloc: Global, line: &Line<'_>) -> Result<(), ConfAnswer>
         requires { heading_at line.now.directive.now ≡ None }
         ensures ok { OnOk result (TakesLine (read_so_far self.old) (shown_line line.now) (Ok (read_so_far self.new))) }
-        ensures bad { IfErr result (λ answer. AnswersWith (TakesLine (read_so_far self.old) (shown_line line.now)) line.now.number answer) }
+        ensures bad { IfErr result
+            (λ answer. AnswersWith
+            (TakesLine (read_so_far self.old) (shown_line line.now)) line.now.number answer) }
     {
         match self.spot {
             Spot::Global => self.read_said(alloc, line),
@@ -214,7 +237,9 @@ impl Reader {
     fn read_interface(&mut self, alloc: Global, line: &Line<'_>) -> Result<(), ConfAnswer>
         requires { heading_at line.now.directive.now ≡ Some HeadingName.Interface }
         ensures ok { OnOk result (TakesLine (read_so_far self.old) (shown_line line.now) (Ok (read_so_far self.new))) }
-        ensures bad { IfErr result (λ answer. AnswersWith (TakesLine (read_so_far self.old) (shown_line line.now)) line.now.number answer) }
+        ensures bad { IfErr result
+            (λ answer. AnswersWith
+            (TakesLine (read_so_far self.old) (shown_line line.now)) line.now.number answer) }
     {
         match interface_said(alloc, line.about)? {
             Some(name) => self.enter(alloc, line.number, name),
@@ -225,7 +250,9 @@ impl Reader {
     /// Takes one line more.
     pub fn read_line(&mut self, alloc: Global, line: &Line<'_>) -> Result<(), ConfAnswer>
         ensures ok { OnOk result (TakesLine (read_so_far self.old) (shown_line line.now) (Ok (read_so_far self.new))) }
-        ensures bad { IfErr result (λ answer. AnswersWith (TakesLine (read_so_far self.old) (shown_line line.now)) line.now.number answer) }
+        ensures bad { IfErr result
+            (λ answer. AnswersWith
+            (TakesLine (read_so_far self.old) (shown_line line.now)) line.now.number answer) }
     {
         match heading_named(line.directive) {
             Some(HeadingName::Interface) => self.read_interface(alloc, line),

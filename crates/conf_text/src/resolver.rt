@@ -25,7 +25,10 @@ fn search_in_force(
     block: &Option<Vec<String>>,
     global: &Option<Vec<String>>,
 ) -> Result<Vec<String>, AllocError>
-    ensures { IfOk result (λ search. map string_bytes search.items ≡ list_or_none (option_map (λ names. map string_bytes names.items) block.now) (option_map (λ names. map string_bytes names.items) global.now)) }
+    ensures { IfOk result
+        (λ search. map string_bytes search.items
+        ≡ list_or_none (option_map (λ names. map string_bytes names.items) block.now)
+        (option_map (λ names. map string_bytes names.items) global.now)) }
 {
     match (block, global) {
         (Some(names), _) => copies(alloc, names),
@@ -39,7 +42,9 @@ fn domain_in_force(
     block: &Option<String>,
     global: &Option<String>,
 ) -> Result<String, AllocError>
-    ensures { IfOk result (λ domain. string_bytes domain ≡ list_or_none (option_map string_bytes block.now) (option_map string_bytes global.now)) }
+    ensures { IfOk result
+        (λ domain. string_bytes domain
+        ≡ list_or_none (option_map string_bytes block.now) (option_map string_bytes global.now)) }
 {
     match (block, global) {
         (Some(name), _) => String::from_str(alloc, name),

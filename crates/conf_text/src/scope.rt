@@ -12,8 +12,8 @@ use conf_directives::{CodeList, CodesSaid, Directive, Env, IaLine, Identifier, S
 use net_types::{Net4, NoMemory};
 use std::alloc::Global;
 
-/// What the lines in front of all blocks say, or those in the blocks of one interface: of single values what the last line
-/// says, of lists all of it.
+/// What the lines in front of all blocks say, or those in the blocks of one interface: of single values what the last
+/// line says, of lists all of it.
 #[derive(Drop)]
 pub struct Scope {
     pub flags: Flags,
@@ -90,7 +90,8 @@ impl Scope {
     #[tactic(auto, unfolding(crate::specs::Steps::scope_with))]
     fn say_codes(&mut self, list: CodeList, said: CodesSaid) -> Result<(), NoMemory>
         requires { FitsWords (scope_content self.old) (Codes list (codes_content said)) }
-        ensures { OnOk result (scope_content self.new ≡ scope_with (scope_content self.old) (Codes list (codes_content said))) }
+        ensures { OnOk result
+            (scope_content self.new ≡ scope_with (scope_content self.old) (Codes list (codes_content said))) }
     {
         match list {
             CodeList::Asked => add_codes(&mut self.asked, &said),
@@ -103,7 +104,8 @@ impl Scope {
     #[tactic(auto, unfolding(crate::specs::Steps::scope_with))]
     pub fn say(&mut self, directive: Directive) -> Result<(), NoMemory>
         requires { FitsWords (scope_content self.old) (directive_content directive) }
-        ensures { OnOk result (scope_content self.new ≡ scope_with (scope_content self.old) (directive_content directive)) }
+        ensures { OnOk result
+            (scope_content self.new ≡ scope_with (scope_content self.old) (directive_content directive)) }
     {
         match directive {
             Directive::Flag(name) => self.flags.turn_on(name),

@@ -100,7 +100,9 @@ fn outlet_by(conf: &Conf, upstream: &Name, spec: &IfSpec) -> Option<Outlet>
 
 /// What a share that is taken gives.
 fn given_by(subject: &Subject<'_>, iaid: u32, share: &Share) -> Option<ShareConf>
-    ensures { result ≡ given_by (configuration subject.now.conf.now) subject.now.ifaces.now subject.now.spec.now.name iaid share.now }
+    ensures { result
+        ≡ given_by
+        (configuration subject.now.conf.now) subject.now.ifaces.now subject.now.spec.now.name iaid share.now }
 {
     let spec = spec_named(subject.ifaces, &share.name)?;
     let outlet = outlet_by(subject.conf, &subject.spec.name, spec)?;
@@ -117,7 +119,11 @@ fn all_given(
     iaid: u32,
     taken: &[Share],
 ) -> Result<Vec<ShareConf>, NoMemory>
-    ensures { IfOk result (λ all. all.items ≡ filter_map (given_by (configuration subject.now.conf.now) subject.now.ifaces.now subject.now.spec.now.name iaid) taken.now) }
+    ensures { IfOk result
+        (λ all. all.items
+        ≡ filter_map
+        (given_by (configuration subject.now.conf.now) subject.now.ifaces.now subject.now.spec.now.name iaid)
+        taken.now) }
 {
     Ok(
         taken

@@ -53,7 +53,8 @@ ends_past (byte ∷ bytes) =
       | false ↦ λ t. ends_past bytes
     ] refl
 
-plain_cut : (byte : ℕ) (bytes : List ℕ) → parts_words byte ≡ false → eqb byte quote ≡ false → Cut (byte ∷ bytes) (plain_at (byte ∷ bytes)).0 (plain_at (byte ∷ bytes)).1
+plain_cut : (byte : ℕ) (bytes : List ℕ) → parts_words byte ≡ false → eqb byte quote ≡ false
+    → Cut (byte ∷ bytes) (plain_at (byte ∷ bytes)).0 (plain_at (byte ∷ bytes)).1
 plain_cut byte bytes dark plain =
     let begins : front_of is_of_word (byte ∷ bytes) ≡ byte ∷ front_of is_of_word bytes = ap (λ b. cond (not b) (byte ∷ front_of is_of_word bytes) []) dark in
     record {
@@ -67,13 +68,16 @@ plain_cut byte bytes dark plain =
       );
     }
 
-from_cut : (words : List ℕ) (argument : Said) (rest : List ℕ) → ((byte : ℕ) (bytes : List ℕ) → words ≡ byte ∷ bytes → parts_words byte ≡ false) → argument_from words ≡ Some (argument, rest) → Cut words argument rest
+from_cut : (words : List ℕ) (argument : Said) (rest : List ℕ) → ((byte : ℕ) (bytes : List ℕ) → words ≡ byte ∷ bytes → parts_words byte ≡ false)
+    → argument_from words ≡ Some (argument, rest) → Cut words argument rest
 from_cut [] argument rest dark e = let no : ⊥ = cc in absurd no
 from_cut (byte ∷ bytes) argument rest dark e =
     let pair : Said × List ℕ = (argument, rest) in
-    elim (eqb byte quote) as (λ b. eqb byte quote ≡ b → cond b (Some (quoted_at bytes)) (Some (plain_at (byte ∷ bytes))) ≡ Some pair → Cut (byte ∷ bytes) argument rest) [
+    elim (eqb byte quote) as
+    (λ b. eqb byte quote ≡ b → cond b (Some (quoted_at bytes)) (Some (plain_at (byte ∷ bytes))) ≡ Some pair → Cut (byte ∷ bytes) argument rest) [
       | true ↦ λ t q.
-          let cut : Cut (byte ∷ bytes) (quoted_at bytes).0 (quoted_at bytes).1 = subst (λ b. Cut (b ∷ bytes) (quoted_at bytes).0 (quoted_at bytes).1) (sym (eqb-true _ _ t)) (quoted_cut bytes) in
+          let cut : Cut (byte ∷ bytes) (quoted_at bytes).0 (quoted_at bytes).1 =
+          subst (λ b. Cut (b ∷ bytes) (quoted_at bytes).0 (quoted_at bytes).1) (sym (eqb-true _ _ t)) (quoted_cut bytes) in
           subst (λ (p : Said × List ℕ). Cut (byte ∷ bytes) p.0 p.1) (some_same q) cut
       | false ↦ λ t q. subst (λ (p : Said × List ℕ). Cut (byte ∷ bytes) p.0 p.1) (some_same q) (plain_cut byte bytes (dark byte bytes refl) t)
     ] refl e
@@ -102,7 +106,8 @@ pub argument_none : (text : List ℕ) → argument_at text ≡ None → Only par
 unfolding argument_at
 argument_none text e =
     let none : past parts_words text ≡ [] = none_from (past parts_words text) e in
-    let all : text ≡ front_of parts_words text = parted parts_words text ∙ ap (λ w. front_of parts_words text ++ w) none ∙ append-nil (front_of parts_words text) in
+    let all : text ≡ front_of parts_words text =
+    parted parts_words text ∙ ap (λ w. front_of parts_words text ++ w) none ∙ append-nil (front_of parts_words text) in
     subst (λ t. Only parts_words t) (sym all) (front_only parts_words text)
 
 pub none_argument : (text : List ℕ) → Only parts_words text → argument_at text ≡ None
@@ -127,21 +132,26 @@ quoted_end : (text : List ℕ) → Lacks quote text → quoted_at text ≡ (said
 unfolding quoted_at
 quoted_end text lacks = ap (quoted_by text) (none_where quote text lacks)
 
-plain_whole : (text rest : List ℕ) → BeginsWord text → Only is_of_word text → ends_word rest ≡ true → argument_from (past parts_words (text ++ rest)) ≡ Some (said Plain text, rest)
+plain_whole : (text rest : List ℕ) → BeginsWord text → Only is_of_word text → ends_word rest ≡ true
+    → argument_from (past parts_words (text ++ rest)) ≡ Some (said Plain text, rest)
 plain_whole [] rest begins only ends = absurd begins
 plain_whole (byte ∷ bytes) rest begins only ends =
     let dark : parts_words byte ≡ false = not-true _ begins.0 in
     let unquoted : eqb byte quote ≡ false = ne_eqb _ _ begins.1 in
-    let here : past parts_words (byte ∷ bytes ++ rest) ≡ byte ∷ bytes ++ rest = ap (λ b. cond b (past parts_words (bytes ++ rest)) (byte ∷ bytes ++ rest)) dark in
-    let front : front_of is_of_word (byte ∷ bytes ++ rest) ≡ byte ∷ bytes = front_front is_of_word (byte ∷ bytes) rest only ∙ ap (λ f. byte ∷ bytes ++ f) (front_end rest ends) ∙ append-nil (byte ∷ bytes) in
+    let here : past parts_words (byte ∷ bytes ++ rest) ≡ byte ∷ bytes ++ rest =
+    ap (λ b. cond b (past parts_words (bytes ++ rest)) (byte ∷ bytes ++ rest)) dark in
+    let front : front_of is_of_word (byte ∷ bytes ++ rest) ≡ byte ∷ bytes =
+    front_front is_of_word (byte ∷ bytes) rest only ∙ ap (λ f. byte ∷ bytes ++ f) (front_end rest ends) ∙ append-nil (byte ∷ bytes) in
     let after : past is_of_word (byte ∷ bytes ++ rest) ≡ rest = past_front is_of_word (byte ∷ bytes) rest only ∙ past_end rest ends in
     ap argument_from here
     ∙ ap (λ b. cond b (Some (quoted_at (bytes ++ rest))) (Some (plain_at (byte ∷ bytes ++ rest)))) unquoted
     ∙ ap (λ f. Some (said Plain f, past is_of_word (byte ∷ bytes ++ rest))) front
     ∙ ap (λ r. Some (said Plain (byte ∷ bytes), r)) after
 
-from_whole : (form : Form) (text spelling rest : List ℕ) → SpelledBefore form text spelling rest → argument_from (past parts_words (spelling ++ rest)) ≡ Some (said form text, rest)
-from_whole Plain text spelling rest spelled = ap (λ s. argument_from (past parts_words (s ++ rest))) spelled.0 ∙ plain_whole text rest spelled.1 spelled.2 spelled.3
+from_whole : (form : Form) (text spelling rest : List ℕ) → SpelledBefore form text spelling rest
+    → argument_from (past parts_words (spelling ++ rest)) ≡ Some (said form text, rest)
+from_whole Plain text spelling rest spelled =
+    ap (λ s. argument_from (past parts_words (s ++ rest))) spelled.0 ∙ plain_whole text rest spelled.1 spelled.2 spelled.3
 from_whole Quoted text spelling rest spelled =
     elim (spelled.1) as (λ h. argument_from (past parts_words (spelling ++ rest)) ≡ Some (said Quoted text, rest)) [
       | inl e ↦
@@ -179,6 +189,7 @@ spelled_some Quoted text spelling rest spelled =
 pub argument_shorter : (text : List ℕ) (argument : Said) (rest : List ℕ) → BeginsWithArgument text argument rest → length rest < length text
 argument_shorter text argument rest begins =
     let some = spelled_some argument.form argument.text begins.spelling rest begins.spelled in
-    let whole : length text ≡ length begins.gap + length (begins.spelling ++ rest) = ap length begins.parted ∙ length-append begins.gap (begins.spelling ++ rest) in
+    let whole : length text ≡ length begins.gap + length (begins.spelling ++ rest) =
+    ap length begins.parted ∙ length-append begins.gap (begins.spelling ++ rest) in
     let inner : length (begins.spelling ++ rest) ≡ length begins.spelling + length rest = length-append begins.spelling rest in
     omega (arith, some, whole, inner)

@@ -17,7 +17,8 @@ front_take : (test : ℕ → Bool) (text : List ℕ) → take (prefix_len test t
 front_take test [] = refl
 front_take test (byte ∷ bytes) =
     elim (test byte) as (λ b. take (cond b (1 + prefix_len test bytes) 0) (byte ∷ bytes) ≡ cond b (byte ∷ front_of test bytes) []) [
-      | true ↦ let next : 1 + prefix_len test bytes ≡ suc (prefix_len test bytes) = omega arith in ap (λ n. take n (byte ∷ bytes)) next ∙ ap (λ t. byte ∷ t) (front_take test bytes)
+      | true ↦ let next : 1 + prefix_len test bytes ≡ suc (prefix_len test bytes) =
+          omega arith in ap (λ n. take n (byte ∷ bytes)) next ∙ ap (λ t. byte ∷ t) (front_take test bytes)
       | false ↦ refl
     ]
 
@@ -37,16 +38,20 @@ found_place stop text i e =
 
 no_place : (stop : ℕ → Bool) (text : List ℕ) → position stop text ≡ None → length text ≤ position_or_len stop text
 no_place stop text e =
-    elim (ltb (position_or_len stop text) (length text)) as (λ b. ltb (position_or_len stop text) (length text) ≡ b → cond b (Some (position_or_len stop text)) None ≡ None → length text ≤ position_or_len stop text) [
+    elim (ltb (position_or_len stop text) (length text)) as
+    (λ b. ltb (position_or_len stop text) (length text) ≡ b → cond b (Some (position_or_len stop text)) None ≡ None
+    → length text ≤ position_or_len stop text) [
       | true ↦ λ t q. let never : ⊥ = cc in absurd never
       | false ↦ λ t q. ltb-false _ _ t
     ] refl e
 
-pub past_place : (test stop : ℕ → Bool) → ((b : ℕ) → not (stop b) ≡ test b) → (text : List ℕ) (i : ℕ) → position stop text ≡ Some i → drop i text ≡ past test text
+pub past_place : (test stop : ℕ → Bool) → ((b : ℕ) → not (stop b) ≡ test b) → (text : List ℕ) (i : ℕ) → position stop text ≡ Some i
+    → drop i text ≡ past test text
 past_place test stop other text i e =
     ap (λ n. drop n text) (found_place stop text i e ∙ same_len (λ b. not (stop b)) test other text) ∙ past_drop test text
 
-pub front_place : (test stop : ℕ → Bool) → ((b : ℕ) → not (stop b) ≡ test b) → (text : List ℕ) (i : ℕ) → position stop text ≡ Some i → take i text ≡ front_of test text
+pub front_place : (test stop : ℕ → Bool) → ((b : ℕ) → not (stop b) ≡ test b) → (text : List ℕ) (i : ℕ) → position stop text ≡ Some i
+    → take i text ≡ front_of test text
 front_place test stop other text i e =
     ap (λ n. take n text) (found_place stop text i e ∙ same_len (λ b. not (stop b)) test other text) ∙ front_take test text
 

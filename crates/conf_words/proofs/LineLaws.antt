@@ -60,7 +60,8 @@ dropped line =
 fed : (text front rest : List ℕ) → text ≡ front ++ line_feed ∷ rest → Lacks line_feed front → BeginsWithLine text (without_return front) rest
 unfolding without_return
 fed text front rest cut lacks =
-    elim (ends_with nat_eq front (carriage_return ∷ [])) as (λ b. ends_with nat_eq front (carriage_return ∷ []) ≡ b → BeginsWithLine text (cond b (take (length front - 1) front) front) rest) [
+    elim (ends_with nat_eq front (carriage_return ∷ [])) as
+    (λ b. ends_with nat_eq front (carriage_return ∷ []) ≡ b → BeginsWithLine text (cond b (take (length front - 1) front) front) rest) [
       | true ↦ λ t.
           let line = take (length front - 1) front in
           record {
@@ -108,7 +109,8 @@ line_sound text line rest e =
 pub line_none : (text : List ℕ) → line_at text ≡ None → text ≡ []
 line_none [] e = refl
 line_none (byte ∷ bytes) e =
-    let never : Some (line_by (byte ∷ bytes) (split_at_byte line_feed (byte ∷ bytes))) ≡ None = sym (some_line (byte ∷ bytes) (λ q. let no : ⊥ = cc in no)) ∙ e in
+    let never : Some (line_by (byte ∷ bytes) (split_at_byte line_feed (byte ∷ bytes))) ≡ None =
+    sym (some_line (byte ∷ bytes) (λ q. let no : ⊥ = cc in no)) ∙ e in
     let no : ⊥ = cc in absurd no
 
 -- ---- what begins the text is read
@@ -128,7 +130,8 @@ line_whole text line rest begins = by begins.line_end begins.spelled begins.lack
     by : (line_end : LineEnd) → text ≡ line ++ (end_text line_end ++ rest) → Lacks line_feed line → MayEnd line_end line rest → line_at text ≡ Some (line, rest)
     by Feed spelled lacks other = fed_whole text line rest spelled lacks ∙ ap (λ l. Some (l, rest)) (kept line other)
     by ReturnAndFeed spelled lacks other =
-        fed_whole text (line ++ carriage_return ∷ []) rest (spelled ∙ sym (append_assoc line (carriage_return ∷ []) (line_feed ∷ rest))) (lacks-append line_feed line (carriage_return ∷ []) lacks refl)
+        fed_whole text (line ++ carriage_return ∷ []) rest (spelled ∙ sym (append_assoc line (carriage_return ∷ []) (line_feed ∷ rest)))
+        (lacks-append line_feed line (carriage_return ∷ []) lacks refl)
         ∙ ap (λ l. Some (l, rest)) (dropped line)
     by TextEnd spelled lacks other =
         let same : text ≡ line = spelled ∙ ap (λ r. line ++ r) other.1 ∙ append-nil line in
@@ -140,8 +143,11 @@ pub line_shorter : (text line rest : List ℕ) → BeginsWithLine text line rest
 line_shorter text line rest begins = by begins.line_end begins.spelled begins.may_end
   where
     by : (line_end : LineEnd) → text ≡ line ++ (end_text line_end ++ rest) → MayEnd line_end line rest → length rest < length text
-    by Feed spelled other = let size : length text ≡ length line + suc (length rest) = ap length spelled ∙ length-append line (line_feed ∷ rest) in omega (arith, size)
-    by ReturnAndFeed spelled other = let size : length text ≡ length line + suc (suc (length rest)) = ap length spelled ∙ length-append line (carriage_return ∷ line_feed ∷ rest) in omega (arith, size)
+    by Feed spelled other =
+        let size : length text ≡ length line + suc (length rest) = ap length spelled ∙ length-append line (line_feed ∷ rest) in omega (arith, size)
+    by ReturnAndFeed spelled other =
+        let size : length text ≡ length line + suc (suc (length rest)) = ap length spelled
+        ∙ length-append line (carriage_return ∷ line_feed ∷ rest) in omega (arith, size)
     by TextEnd spelled other =
         let same : text ≡ line = spelled ∙ ap (λ r. line ++ r) other.1 ∙ append-nil line in
         let none : length rest ≡ 0 = ap length other.1 in

@@ -33,14 +33,17 @@ cons_more : (o : Option Directive) (front rest : List Directive) → cons_option
 cons_more None front rest = refl
 cons_more (Some d) front rest = refl
 
-numbered_more : (number : ℕ) (lines : List (List ℕ)) (line : List ℕ) → numbered number (lines ++ line ∷ []) ≡ numbered number lines ++ cons_option (directive_in (number + length lines) line) []
+numbered_more : (number : ℕ) (lines : List (List ℕ)) (line : List ℕ)
+    → numbered number (lines ++ line ∷ []) ≡ numbered number lines ++ cons_option (directive_in (number + length lines) line) []
 numbered_more number [] line = let none : number ≡ number + 0 = omega arith in ap (λ n. cons_option (directive_in n line) []) none
 numbered_more number (first ∷ lines) line =
     let next : number + 1 + length lines ≡ number + suc (length lines) = omega arith in
-    ap (cons_option (directive_in number first)) (numbered_more (number + 1) lines line ∙ ap (λ n. numbered (number + 1) lines ++ cons_option (directive_in n line) []) next)
+    ap (cons_option (directive_in number first))
+    (numbered_more (number + 1) lines line ∙ ap (λ n. numbered (number + 1) lines ++ cons_option (directive_in n line) []) next)
     ∙ cons_more (directive_in number first) (numbered (number + 1) lines) (cons_option (directive_in (number + suc (length lines)) line) [])
 
-pub read_next : (text rest after : List ℕ) (number : ℕ) (found : List Directive) (line : List ℕ) → ReadSoFar text rest number found → BeginsWithLine rest line after → is_text line ≡ true → ReadSoFar text after (number + 1) (found ++ cons_option (directive_in number line) [])
+pub read_next : (text rest after : List ℕ) (number : ℕ) (found : List Directive) (line : List ℕ) → ReadSoFar text rest number found
+    → BeginsWithLine rest line after → is_text line ≡ true → ReadSoFar text after (number + 1) (found ++ cons_option (directive_in number line) [])
 read_next text rest after number found line so_far begins good =
     let here : number ≡ 1 + length so_far.lines = (let count = so_far.counted in omega (arith, count)) in
     record {
@@ -66,12 +69,22 @@ read_within text rest number found so_far =
     let count = so_far.counted in
     omega (arith, short, count)
 
-pub read_all : (text rest : List ℕ) (number : ℕ) (found : List Directive) → ReadSoFar text rest number found → rest ≡ [] → IsReadAs text record { found = found; not_text = None }
-read_all text rest number found so_far end = record { lines = so_far.lines; rest = rest; leads = so_far.leads; texts = so_far.texts; has = so_far.has; stops = end }
+pub read_all : (text rest : List ℕ) (number : ℕ) (found : List Directive) → ReadSoFar text rest number found → rest ≡ []
+    → IsReadAs text record { found = found; not_text = None }
+read_all text rest number found so_far end =
+    record { lines = so_far.lines; rest = rest; leads = so_far.leads; texts = so_far.texts; has = so_far.has; stops = end }
 
-pub read_to : (text rest after : List ℕ) (number : ℕ) (found : List Directive) (line : List ℕ) → ReadSoFar text rest number found → BeginsWithLine rest line after → is_text line ≡ false → IsReadAs text record { found = found; not_text = Some number }
+pub read_to : (text rest after : List ℕ) (number : ℕ) (found : List Directive) (line : List ℕ) → ReadSoFar text rest number found
+    → BeginsWithLine rest line after → is_text line ≡ false → IsReadAs text record { found = found; not_text = Some number }
 read_to text rest after number found line so_far begins bad =
-    record { lines = so_far.lines; rest = rest; leads = so_far.leads; texts = so_far.texts; has = so_far.has; stops = (so_far.counted, line, after, begins, bad) }
+    record {
+      lines = so_far.lines;
+      rest = rest;
+      leads = so_far.leads;
+      texts = so_far.texts;
+      has = so_far.has;
+      stops = (so_far.counted, line, after, begins, bad);
+    }
 
 -- ---- one reading
 
@@ -92,7 +105,8 @@ stuck rest number (Some at) stops = λ line after begins good.
     let same = one_part one_line rest line stops.1 after stops.2 begins stops.3 in
     true≢false (sym good ∙ ap is_text same.0 ∙ stops.4)
 
-one_front : (one other : List (List ℕ)) (text end stop : List ℕ) → Leads BeginsWithLine one text end → Leads BeginsWithLine other text stop → list_all is_text one ≡ true → list_all is_text other ≡ true → Stuck end → Stuck stop → (one ≡ other) × (end ≡ stop)
+one_front : (one other : List (List ℕ)) (text end stop : List ℕ) → Leads BeginsWithLine one text end → Leads BeginsWithLine other text stop
+    → list_all is_text one ≡ true → list_all is_text other ≡ true → Stuck end → Stuck stop → (one ≡ other) × (end ≡ stop)
 unfolding Stuck
 one_front [] [] text end stop first second texts goods halts ceases = (refl, sym first ∙ second)
 one_front [] (y ∷ ys) text end stop first second texts goods halts ceases =
@@ -101,7 +115,9 @@ one_front (x ∷ xs) [] text end stop first second texts goods halts ceases =
     absurd (ceases x first.0 (subst (λ t. BeginsWithLine t x first.0) second first.1) (and_parts (is_text x) _ texts).0)
 one_front (x ∷ xs) (y ∷ ys) text end stop first second texts goods halts ceases =
     let same = one_part one_line text x y first.0 second.0 first.1 second.1 in
-    let rest = one_front xs ys first.0 end stop first.2 (subst (λ t. Leads BeginsWithLine ys t stop) (sym same.1) second.2) (and_parts (is_text x) _ texts).1 (and_parts (is_text y) _ goods).1 halts ceases in
+    let rest =
+    one_front xs ys first.0 end stop first.2 (subst (λ t. Leads BeginsWithLine ys t stop) (sym same.1) second.2) (and_parts (is_text x) _ texts).1
+    (and_parts (is_text y) _ goods).1 halts ceases in
     (ap (λ z. z ∷ xs) same.0 ∙ ap (λ zs. y ∷ zs) rest.0, rest.1)
 
 one_stop : (rest : List ℕ) (number : ℕ) (one other : Option ℕ) → StopsBefore rest number one → StopsBefore rest number other → one ≡ other
@@ -112,7 +128,9 @@ one_stop rest number (Some at) (Some other) first second = ap (λ n. Some n) (fi
 
 pub one_reading : (text : List ℕ) (one other : Read) → IsReadAs text one → IsReadAs text other → one ≡ other
 one_reading text one other first second =
-    let front = one_front first.lines second.lines text first.rest second.rest first.leads second.leads first.texts second.texts (stuck _ _ _ first.stops) (stuck _ _ _ second.stops) in
+    let front =
+    one_front first.lines second.lines text first.rest second.rest first.leads second.leads first.texts second.texts (stuck _ _ _ first.stops)
+    (stuck _ _ _ second.stops) in
     let stops : StopsBefore first.rest (length first.lines + 1) other.not_text =
     subst (λ r. StopsBefore r (length first.lines + 1) other.not_text) (sym front.1)
     (subst (λ (ls : List (List ℕ)). StopsBefore second.rest (length ls + 1) other.not_text) (sym front.0) second.stops) in

@@ -16,7 +16,8 @@ use Rattle.conf_words.proofs.ArgumentLaws.{argument_sound, argument_whole, quote
 blank_end : (rest : List ℕ) → ends_line rest ≡ true → Only parts_words rest
 blank_end rest e =
     let none : past parts_words rest ≡ [] = nil_from_length _ (eqb-true _ _ e) in
-    let all : rest ≡ front_of parts_words rest = parted parts_words rest ∙ ap (λ w. front_of parts_words rest ++ w) none ∙ append-nil (front_of parts_words rest) in
+    let all : rest ≡ front_of parts_words rest =
+    parted parts_words rest ∙ ap (λ w. front_of parts_words rest ++ w) none ∙ append-nil (front_of parts_words rest) in
     subst (λ t. Only parts_words t) (sym all) (front_only parts_words rest)
 
 end_blank : (rest : List ℕ) → Only parts_words rest → ends_line rest ≡ true
@@ -24,22 +25,28 @@ end_blank rest only = eq-eqb _ _ (ap length (past_all parts_words rest only))
 
 -- ---- what is read is the rest
 
-quoted_rest : (about : List ℕ) (bytes : List ℕ) (argument : Said) → argument_at about ≡ Some (quoted_at bytes) → whole_by (quoted_at bytes) ≡ Some argument → IsWholeArgument about argument
+quoted_rest : (about : List ℕ) (bytes : List ℕ) (argument : Said) → argument_at about ≡ Some (quoted_at bytes) → whole_by (quoted_at bytes) ≡ Some argument
+    → IsWholeArgument about argument
 quoted_rest about bytes argument found e =
-    elim (ends_line (quoted_at bytes).1) as (λ b. ends_line (quoted_at bytes).1 ≡ b → cond b (Some (quoted_at bytes).0) None ≡ Some argument → IsWholeArgument about argument) [
+    elim (ends_line (quoted_at bytes).1) as
+    (λ b. ends_line (quoted_at bytes).1 ≡ b → cond b (Some (quoted_at bytes).0) None ≡ Some argument → IsWholeArgument about argument) [
       | true ↦ λ t q.
           let begins = argument_sound about (quoted_at bytes).0 (quoted_at bytes).1 found in
-          let all : AreArgumentsOf about ((quoted_at bytes).0 ∷ []) = ((quoted_at bytes).1, ((quoted_at bytes).1, begins, refl), blank_end (quoted_at bytes).1 t) in
+          let all : AreArgumentsOf about ((quoted_at bytes).0 ∷ []) =
+          ((quoted_at bytes).1, ((quoted_at bytes).1, begins, refl), blank_end (quoted_at bytes).1 t) in
           let form : (quoted_at bytes).0 ≡ said Quoted (quoted_at bytes).0.text = quoted_is bytes in
           let whole : IsWholeArgument about (said Quoted (quoted_at bytes).0.text) = subst (λ (a : Said). AreArgumentsOf about (a ∷ [])) form all in
           subst (λ (a : Said). IsWholeArgument about a) (sym form ∙ some_same q) whole
       | false ↦ λ t q. absurd (none-some argument q)
     ] refl e
 
-from_words : (about words : List ℕ) (argument : Said) → past parts_words about ≡ words → argument_at about ≡ argument_from words → whole_from words ≡ Some argument → IsWholeArgument about argument
+from_words : (about words : List ℕ) (argument : Said) → past parts_words about ≡ words → argument_at about ≡ argument_from words
+    → whole_from words ≡ Some argument → IsWholeArgument about argument
 from_words about [] argument here found e = absurd (none-some argument e)
 from_words about (byte ∷ bytes) argument here found e =
-    elim (eqb byte quote) as (λ b. eqb byte quote ≡ b → argument_at about ≡ cond b (Some (quoted_at bytes)) (Some (plain_at (byte ∷ bytes))) → cond b (whole_by (quoted_at bytes)) (Some (said Plain (byte ∷ bytes))) ≡ Some argument → IsWholeArgument about argument) [
+    elim (eqb byte quote) as
+    (λ b. eqb byte quote ≡ b → argument_at about ≡ cond b (Some (quoted_at bytes)) (Some (plain_at (byte ∷ bytes)))
+    → cond b (whole_by (quoted_at bytes)) (Some (said Plain (byte ∷ bytes))) ≡ Some argument → IsWholeArgument about argument) [
       | true ↦ λ t at q. quoted_rest about bytes argument at q
       | false ↦ λ t at q.
           let dark : parts_words byte ≡ false = past_fails parts_words about byte bytes here in
@@ -65,11 +72,14 @@ plain_some (byte ∷ bytes) begins =
     ap (λ b. whole_from (cond b (past parts_words bytes) (byte ∷ bytes))) dark
     ∙ ap (λ b. cond b (whole_by (quoted_at bytes)) (Some (said Plain (byte ∷ bytes)))) (ne_eqb byte quote begins.1)
 
-quoted_some : (words : List ℕ) (text rest : List ℕ) → argument_from words ≡ Some (said Quoted text, rest) → ends_line rest ≡ true → whole_from words ≡ Some (said Quoted text)
+quoted_some : (words : List ℕ) (text rest : List ℕ) → argument_from words ≡ Some (said Quoted text, rest) → ends_line rest ≡ true
+    → whole_from words ≡ Some (said Quoted text)
 quoted_some [] text rest found ends = absurd (none-some _ found)
 quoted_some (byte ∷ bytes) text rest found ends =
     let pair : Said × List ℕ = (said Quoted text, rest) in
-    elim (eqb byte quote) as (λ b. cond b (Some (quoted_at bytes)) (Some (plain_at (byte ∷ bytes))) ≡ Some pair → cond b (whole_by (quoted_at bytes)) (Some (said Plain (byte ∷ bytes))) ≡ Some (said Quoted text)) [
+    elim (eqb byte quote) as
+    (λ b. cond b (Some (quoted_at bytes)) (Some (plain_at (byte ∷ bytes))) ≡ Some pair
+    → cond b (whole_by (quoted_at bytes)) (Some (said Plain (byte ∷ bytes))) ≡ Some (said Quoted text)) [
       | true ↦ λ q. ap whole_by (some_same q) ∙ ap (λ b. cond b (Some (said Quoted text)) None) ends
       | false ↦ λ q. absurd (apart (ap (λ (p : Said × List ℕ). p.0.form) (some_same q)))
     ] found

@@ -47,7 +47,8 @@ pub record BeginsWithArgument (text : List ℕ) (argument : Said) (rest : List �
 abbrev pub AreArgumentsOf : List ℕ → List Said → Type 0
 AreArgumentsOf text arguments = (rest : List ℕ) × Leads BeginsWithArgument arguments text rest × Only parts_words rest
 
--- The text is blanks and one argument to its end, as `static` takes it: a quoted one, or all that stands from a word on.
+-- The text is blanks and one argument to its end, as `static` takes it: a quoted one, or all that stands from a word
+-- on.
 abbrev pub IsWholeAs : Form → List ℕ → List ℕ → Type 0
 IsWholeAs Quoted about text = AreArgumentsOf about (said Quoted text ∷ [])
 IsWholeAs Plain about text = (gap : List ℕ) × (about ≡ gap ++ text) × Only parts_words gap × BeginsWord text

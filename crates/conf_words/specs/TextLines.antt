@@ -1,5 +1,5 @@
--- The lines of a configuration. Each ends with a line feed, before which one carriage return may stand that isn't of the
--- line; the last one may lack them.
+-- The lines of a configuration. Each ends with a line feed, before which one carriage return may stand that isn't of
+-- the line; the last one may lack them.
 use Rattle.std.specs.Prelude.{◌≡◌, ◌≢◌, ℕ, List, [], ◌∷◌, ◌++◌}
 use Rattle.net_types.specs.Marks.{Lacks}
 use Rattle.conf_words.specs.Marks.{line_feed, carriage_return}

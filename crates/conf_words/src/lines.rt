@@ -42,8 +42,8 @@ fn cut_line(text: &[u8]) -> Option<(&[u8], &[u8])>
     }
 }
 
-/// The first line without its end, and the text after that. A line ends with a line feed, or with one carriage return and
-/// a line feed, or with the text.
+/// The first line without its end, and the text after that. A line ends with a line feed, or with one carriage return
+/// and a line feed, or with the text.
 pub fn first_line(text: &[u8]) -> Option<(&[u8], &[u8])>
     ensures line { IfSome result (λ p. BeginsWithLine text.now p.0.now p.1.now) }
     ensures end { IfNone result (text.now ≡ []) }

@@ -20,7 +20,9 @@ pub struct Reading<'a> {
 
 /// Keeps a line where it has a directive.
 fn keep<'a>(lines: &mut Vec<Line<'a>>, number: usize, line: &'a [u8]) -> Result<(), NoMemory>
-    ensures { OnOk result (map shown_line lines.new.items ≡ map shown_line lines.old.items ++ cons_option (directive_in number line.now) []) }
+    ensures { OnOk result
+        (map shown_line lines.new.items
+        ≡ map shown_line lines.old.items ++ cons_option (directive_in number line.now) []) }
 {
     match directive_of(number, line) {
         Some(line) => {

@@ -31,7 +31,8 @@ module _ {K : Type 0} {R : K → K → Ordering} (o : IsTotalOrder R) (k : K) (y
   pub begins_there : (i : ℕ) → i < length ys → HoldsAt (λ y. R y k ≡ Equal) ys i → BeginsAt R ys k i
   begins_there i within here = (
     λ j d a b. sym (alike_right o (get_or ys i d) k (get_or ys j d) (here d)) ∙ Less-from_sorted R ys j i d s b within,
-    λ j d a b. no_less (R (get_or ys j d) k) (subst (λ (r : Ordering). ordering_index r ≤ ordering_index (R (get_or ys j d) k)) (here d) (rises_from_sorted o k ys s i j d a b)),
+    λ j d a b. no_less (R (get_or ys j d) k)
+        (subst (λ (r : Ordering). ordering_index r ≤ ordering_index (R (get_or ys j d) k)) (here d) (rises_from_sorted o k ys s i j d a b)),
   )
 
   pub begins_missing : (i : ℕ) → (Rises (λ y. R y k) ys → IsPartitionPoint (λ y. R y k ≡ Less) (λ y. R y k ≡ Greater) ys i) → BeginsAt R ys k i
@@ -65,7 +66,9 @@ module _ {K : Type 0} {R : K → K → Ordering} (o : IsTotalOrder R) (k : K) (y
         ⊎_elim
         (λ lt. absurd (false≢true (apart y q (subst (λ (x : K). R x k ≡ Less) found.3 (begins.0 j y (omega arith) lt)) from found.4)))
         (λ ge. ⊎_elim
-        (λ later. later_least q y found.4 (subst (λ (x : K). R x y ≡ Less) (sym (at y)) (subst (λ (x : K). R (get_or ys i y) x ≡ Less) found.3 (Less-from_sorted R ys i j y s later found.2))))
+        (λ later. later_least q y found.4
+        (subst (λ (x : K). R x y ≡ Less) (sym (at y))
+        (subst (λ (x : K). R (get_or ys i y) x ≡ Less) found.3 (Less-from_sorted R ys i j y s later found.2))))
         (λ same. let one : i ≡ j = omega arith in
         same_least q (subst (λ (x : K). eq_by_cmp R q x ≡ true) (sym found.3 ∙ ap (λ (n : ℕ). get_or ys n y) (sym one) ∙ sym (at y)) found.4))
         (cases_lt i j))
@@ -73,7 +76,9 @@ module _ {K : Type 0} {R : K → K → Ordering} (o : IsTotalOrder R) (k : K) (y
 
     pub first_is : IsFirstFrom R ys k first
     first_is = record {
-      from = subst (λ (r : Ordering). is_gt r ≡ false) (sym (o.antisymm k first)) (turned (R first k) (subst (λ (x : K). is_lt (R x k) ≡ false) (sym (at first)) (begins.1 i first (omega arith) within)));
+      from =
+          subst (λ (r : Ordering). is_gt r ≡ false) (sym (o.antisymm k first))
+          (turned (R first k) (subst (λ (x : K). is_lt (R x k) ≡ false) (sym (at first)) (begins.1 i first (omega arith) within)));
       there = there o first ys i within (λ d. ap (λ (x : K). R x first) (sym (at d)) ∙ tied_itself o first);
       least = is_least;
     }

@@ -36,7 +36,8 @@ module _ {X : Type 0} (ord : X → Ordering) (xs : List X) where
 
   pub from_less : (low high middle : ℕ) → middle < length xs → Narrowed low high → HoldsAt (λ y. ord y ≡ Less) xs middle → Narrowed (middle + 1) high
   from_less low high middle within n less = record {
-    below = λ up k d a b. least _ (subst (λ (o : Ordering). ordering_index (ord (get_or xs k d)) ≤ ordering_index o) (less d) (up k middle d (omega arith) within));
+    below =
+        λ up k d a b. least _ (subst (λ (o : Ordering). ordering_index (ord (get_or xs k d)) ≤ ordering_index o) (less d) (up k middle d (omega arith) within));
     above = n.above;
   }
 

@@ -40,13 +40,16 @@ module _ {K : Type 0} {R : K → K → Ordering} (o : IsTotalOrder R) where
   pub one_passed : (ys : List K) (j : ℕ) (y k : K) → j < length ys → y ≡ get_or ys j y → R y k ≡ Less
       → (q : K) → IsLeBy R k q → has_key R (drop j ys) q ≡ has_key R (drop (j + 1) ys) q
   one_passed ys j y k within at below q from =
-      ap (λ (l : List K). has_key R l q) (drop_is ys j y within at) ∙ ap (λ b. b || has_key R (drop (j + 1) ys) q) (no_tie y k q below from (eq_by_cmp R q y) refl)
+      ap (λ (l : List K). has_key R l q) (drop_is ys j y within at)
+      ∙ ap (λ b. b || has_key R (drop (j + 1) ys) q) (no_tie y k q below from (eq_by_cmp R q y) refl)
 
   pub is_here : (ys : List K) (j : ℕ) (y k : K) → j < length ys → y ≡ get_or ys j y → R y k ≡ Equal → has_key R (drop j ys) k ≡ true
   is_here ys j y k within at tied =
-      ap (λ (l : List K). has_key R l k) (drop_is ys j y within at) ∙ ap (λ r. is_eq r || has_key R (drop (j + 1) ys) k) (o.antisymm k y ∙ ap ordering_reverse tied)
+      ap (λ (l : List K). has_key R l k) (drop_is ys j y within at)
+      ∙ ap (λ r. is_eq r || has_key R (drop (j + 1) ys) k) (o.antisymm k y ∙ ap ordering_reverse tied)
 
-  pub is_not_here : (ys : List K) (j : ℕ) (y k : K) → IsStrictlySortedBy R ys → j < length ys → y ≡ get_or ys j y → R y k ≡ Greater → has_key R (drop j ys) k ≡ false
+  pub is_not_here : (ys : List K) (j : ℕ) (y k : K) → IsStrictlySortedBy R ys → j < length ys → y ≡ get_or ys j y → R y k ≡ Greater
+      → has_key R (drop j ys) k ≡ false
   is_not_here ys j y k s within at above =
       ap (λ (l : List K). has_key R l k) (drop_is ys j y within at)
       ∙ none_from o k y (drop (j + 1) ys) (sorted_there ys j y s within at) (o.antisymm k y ∙ ap ordering_reverse above)
@@ -80,17 +83,20 @@ module _ {K : Type 0} {R : K → K → Ordering} (o : IsTotalOrder R) where
       by true e later = ap is_gt (alike_right o q x k ((Equal-is (R q x)).0 e) ∙ above.0)
       by false e later = later (sym (ap (λ b. b || has_key R xs q) e) ∙ has)
 
-  module _ (keys others found : List K) (i j : ℕ) (k : K) (sorted : IsStrictlySortedBy R keys) (within : i < length keys) (at : k ≡ get_or keys i k) (so_far : Merged keys others found i j) (n : ℕ)
+  module _ (keys others found : List K) (i j : ℕ) (k : K) (sorted : IsStrictlySortedBy R keys) (within : i < length keys) (at : k ≡ get_or keys i k)
+      (so_far : Merged keys others found i j) (n : ℕ)
       (passed : (q : K) → IsLeBy R k q → has_key R (drop j others) q ≡ has_key R (drop n others) q) where
     has_it : has_key R others k ≡ has_key R (drop j others) k
-    has_it = so_far.left k (ap (λ (l : List K). has_key R l k) (drop_is keys i k within at) ∙ ap (λ r. is_eq r || has_key R (drop (i + 1) keys) k) (tied_itself o k))
+    has_it =
+        so_far.left k (ap (λ (l : List K). has_key R l k) (drop_is keys i k within at) ∙ ap (λ r. is_eq r || has_key R (drop (i + 1) keys) k) (tied_itself o k))
 
     still_left : (q : K) → has_key R (drop (i + 1) keys) q ≡ true → has_key R others q ≡ has_key R (drop n others) q
     still_left q has =
         so_far.left q (ap (λ (l : List K). has_key R l q) (drop_is keys i k within at) ∙ or_has (eq_by_cmp R q k) (has_key R (drop (i + 1) keys) q) has)
         ∙ passed q (from_later k q (drop (i + 1) keys) (sorted_head R k (drop (i + 1) keys) (sorted_there keys i k sorted within at)) has)
 
-    more_found : (b : Bool) → has_key R (drop j others) k ≡ b → filter (lacks others) (take (i + 1) keys) ≡ filter (lacks others) (take i keys) ++ cond (not b) (k ∷ []) []
+    more_found : (b : Bool) → has_key R (drop j others) k ≡ b
+        → filter (lacks others) (take (i + 1) keys) ≡ filter (lacks others) (take i keys) ++ cond (not b) (k ∷ []) []
     more_found b e =
         filter_more (lacks others) keys i k within
         ∙ ap (λ (x : K). filter (lacks others) (take i keys) ++ cond (lacks others x) (x ∷ []) []) (sym at)

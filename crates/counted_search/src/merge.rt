@@ -15,7 +15,8 @@ fn is_among<K: Ord, L: Ledger>(keys: &[K], place: &mut usize, key: &K, steps: &m
     requires ordered { IsStrictlySortedBy K.cmp keys.now }
     requires within { place.old ≤ length keys.now }
     ensures answer { result ≡ has_key K.cmp (drop place.old keys.now) key.now }
-    ensures passed { (q : K) → IsLeBy K.cmp key.now q → has_key K.cmp (drop place.old keys.now) q ≡ has_key K.cmp (drop place.new keys.now) q }
+    ensures passed { (q : K) → IsLeBy K.cmp key.now q
+        → has_key K.cmp (drop place.old keys.now) q ≡ has_key K.cmp (drop place.new keys.now) q }
     ensures within { place.new ≤ length keys.now }
     ensures grows { steps.old ≤ steps.new }
     ensures steps { steps.new + place.old ≤ steps.old + place.new + 1 }
@@ -30,8 +31,8 @@ fn is_among<K: Ord, L: Ledger>(keys: &[K], place: &mut usize, key: &K, steps: &m
     false
 }
 
-/// Fills a vector that has room for all keys with those that others lack, in order: that takes no memory. It takes a step for each
-/// key of either list at most.
+/// Fills a vector that has room for all keys with those that others lack, in order: that takes no memory. It takes a
+/// step for each key of either list at most.
 pub fn beyond_into<K: Ord + Copy, L: Ledger>(
     keys: &[K],
     others: &[K],

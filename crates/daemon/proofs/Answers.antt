@@ -33,18 +33,24 @@ no_memory = Err Answer.NoMemory
 
 -- ---- the link
 
-offer_adds : (iface : ℕ) (frame : List ℕ) (taken : Bool) (told : LinkTold) (new : Option LinkTold) → new ≡ Some (offered iface frame taken told) → Adds (Some told.calls) (option_map (λ t. t.calls) new) (Offered iface frame taken ∷ [])
-offer_adds iface frame taken told new same = subst (λ (n : Option LinkTold). Adds (Some told.calls) (option_map (λ t. t.calls) n) (Offered iface frame taken ∷ [])) (sym same) refl
+offer_adds : (iface : ℕ) (frame : List ℕ) (taken : Bool) (told : LinkTold) (new : Option LinkTold) → new ≡ Some (offered iface frame taken told)
+    → Adds (Some told.calls) (option_map (λ t. t.calls) new) (Offered iface frame taken ∷ [])
+offer_adds iface frame taken told new same =
+    subst (λ (n : Option LinkTold). Adds (Some told.calls) (option_map (λ t. t.calls) n) (Offered iface frame taken ∷ [])) (sym same) refl
 
-pub offered_by : (iface : ℕ) (frame : List ℕ) (failing : Option (List ℕ)) (old new : Option LinkTold) → Offers iface frame old new done_call → Foretold failing (send_number old) done_call → OfferedBy iface frame true failing old new
+pub offered_by : (iface : ℕ) (frame : List ℕ) (failing : Option (List ℕ)) (old new : Option LinkTold) → Offers iface frame old new done_call
+    → Foretold failing (send_number old) done_call → OfferedBy iface frame true failing old new
 offered_by iface frame failing None new offers foretold = record { adds = tt; foretold_is = tt }
 offered_by iface frame None (Some told) new offers foretold = record { adds = offer_adds iface frame true told new offers; foretold_is = tt }
-offered_by iface frame (Some failing) (Some told) new offers foretold = record { adds = offer_adds iface frame true told new offers; foretold_is = (ap not (sym foretold), offers) }
+offered_by iface frame (Some failing) (Some told) new offers foretold =
+    record { adds = offer_adds iface frame true told new offers; foretold_is = (ap not (sym foretold), offers) }
 
-pub untaken_by : (iface : ℕ) (frame : List ℕ) (failing : Option (List ℕ)) (old new : Option LinkTold) → Offers iface frame old new failed_call → Foretold failing (send_number old) failed_call → OfferedBy iface frame false failing old new
+pub untaken_by : (iface : ℕ) (frame : List ℕ) (failing : Option (List ℕ)) (old new : Option LinkTold) → Offers iface frame old new failed_call
+    → Foretold failing (send_number old) failed_call → OfferedBy iface frame false failing old new
 untaken_by iface frame failing None new offers foretold = record { adds = tt; foretold_is = tt }
 untaken_by iface frame None (Some told) new offers foretold = record { adds = offer_adds iface frame false told new offers; foretold_is = tt }
-untaken_by iface frame (Some failing) (Some told) new offers foretold = record { adds = offer_adds iface frame false told new offers; foretold_is = (ap not (sym foretold), offers) }
+untaken_by iface frame (Some failing) (Some told) new offers foretold =
+    record { adds = offer_adds iface frame false told new offers; foretold_is = (ap not (sym foretold), offers) }
 
 pub unoffered : (iface : ℕ) (frame : List ℕ) (old new : Option LinkTold) → Offers {T = Unit {0}} iface frame old new no_memory → new ≡ old
 unoffered iface frame None new offers = offers
@@ -52,75 +58,100 @@ unoffered iface frame (Some told) new offers = offers
 
 -- ---- the host
 
-host_adds : (call : HostCall) (rows : List HostRow) (told : HostTold) (new : Option HostTold) → new ≡ Some (host_answered call rows told) → Adds (Some told.calls) (option_map (λ t. t.calls) new) (call ∷ [])
+host_adds : (call : HostCall) (rows : List HostRow) (told : HostTold) (new : Option HostTold) → new ≡ Some (host_answered call rows told)
+    → Adds (Some told.calls) (option_map (λ t. t.calls) new) (call ∷ [])
 host_adds call rows told new same = subst (λ (n : Option HostTold). Adds (Some told.calls) (option_map (λ t. t.calls) n) (call ∷ [])) (sym same) refl
 
-shown : (failing : Option (List ℕ)) (old new : Option HostTold) (listing : List HostRow) → Shows old new listing → Foretold failing (host_number old) done_call → ListedBy (Some (in_row_order listing)) failing old new
+shown : (failing : Option (List ℕ)) (old new : Option HostTold) (listing : List HostRow) → Shows old new listing → Foretold failing (host_number old) done_call
+    → ListedBy (Some (in_row_order listing)) failing old new
 shown failing None new listing shows foretold = record { adds = tt; foretold_is = tt }
 shown None (Some told) new listing shows foretold = record {
-  adds = subst (λ (rows : List HostRow). Adds (Some told.calls) (option_map (λ t. t.calls) new) (Listed (Some rows) ∷ [])) (sym shows.0) (host_adds (Listed (Some told.rows)) told.rows told new shows.1);
+  adds =
+      subst (λ (rows : List HostRow). Adds (Some told.calls) (option_map (λ t. t.calls) new) (Listed (Some rows) ∷ [])) (sym shows.0)
+      (host_adds (Listed (Some told.rows)) told.rows told new shows.1);
   foretold_is = tt;
 }
 shown (Some failing) (Some told) new listing shows foretold = record {
-  adds = subst (λ (rows : List HostRow). Adds (Some told.calls) (option_map (λ t. t.calls) new) (Listed (Some rows) ∷ [])) (sym shows.0) (host_adds (Listed (Some told.rows)) told.rows told new shows.1);
+  adds =
+      subst (λ (rows : List HostRow). Adds (Some told.calls) (option_map (λ t. t.calls) new) (Listed (Some rows) ∷ [])) (sym shows.0)
+      (host_adds (Listed (Some told.rows)) told.rows told new shows.1);
   foretold_is = (
     ap (λ (rows : List HostRow). Some rows) shows.0 ∙ ap (λ (b : Bool). cond b None (Some told.rows)) (sym foretold),
     shows.1 ∙ ap (λ (rows : List HostRow). Some (host_answered (Listed (Some rows)) told.rows told)) (sym shows.0),
   );
 }
 
-pub listed_by : (failing : Option (List ℕ)) (old new : Option HostTold) (before after : List HostRow) → before ≡ [] → ListsRows old new before after → Foretold failing (host_number old) done_call → ListedBy (Some (in_row_order after)) failing old new
+pub listed_by : (failing : Option (List ℕ)) (old new : Option HostTold) (before after : List HostRow) → before ≡ [] → ListsRows old new before after
+    → Foretold failing (host_number old) done_call → ListedBy (Some (in_row_order after)) failing old new
 listed_by failing old new before after empty lists foretold =
     let same : after ≡ lists.listing = lists.appended ∙ ap (λ (rows : List HostRow). rows ++ lists.listing) empty in
     subst (λ (rows : List HostRow). ListedBy (Some (in_row_order rows)) failing old new) (sym same) (shown failing old new lists.listing lists.told foretold)
 
-pub failed_list_by : (failing : Option (List ℕ)) (old new : Option HostTold) → ListsNone old new Answer.Failed → Foretold failing (host_number old) failed_call → ListedBy None failing old new
+pub failed_list_by : (failing : Option (List ℕ)) (old new : Option HostTold) → ListsNone old new Answer.Failed → Foretold failing (host_number old) failed_call
+    → ListedBy None failing old new
 failed_list_by failing None new none foretold = record { adds = tt; foretold_is = tt }
 failed_list_by None (Some told) new none foretold = record { adds = host_adds (Listed None) told.rows told new none; foretold_is = tt }
-failed_list_by (Some failing) (Some told) new none foretold = record { adds = host_adds (Listed None) told.rows told new none; foretold_is = (ap (λ (b : Bool). cond b None (Some told.rows)) (sym foretold), none) }
+failed_list_by (Some failing) (Some told) new none foretold =
+    record { adds = host_adds (Listed None) told.rows told new none; foretold_is = (ap (λ (b : Bool). cond b None (Some told.rows)) (sym foretold), none) }
 
 pub unlisted : (old new : Option HostTold) → ListsNone old new Answer.NoMemory → new ≡ old
 unlisted None new none = none
 unlisted (Some told) new none = none
 
-pub done_by : (change : HostChange) (failing : Option (List ℕ)) (old new : Option HostTold) → Changes failing (applied change) (change_call change) old new done_call → Foretold failing (host_number old) done_call → ChangedBy change true failing old new
+pub done_by : (change : HostChange) (failing : Option (List ℕ)) (old new : Option HostTold)
+    → Changes failing (applied change) (change_call change) old new done_call → Foretold failing (host_number old) done_call
+    → ChangedBy change true failing old new
 done_by change failing None new changes foretold = record { adds = tt; foretold_is = tt }
 done_by change None (Some told) new changes foretold = record { adds = host_adds (change_call change true) _ told new changes; foretold_is = tt }
-done_by change (Some failing) (Some told) new changes foretold = record { adds = host_adds (change_call change true) _ told new changes; foretold_is = (ap not (sym foretold), changes) }
+done_by change (Some failing) (Some told) new changes foretold =
+    record { adds = host_adds (change_call change true) _ told new changes; foretold_is = (ap not (sym foretold), changes) }
 
-pub undone_by : (change : HostChange) (failing : Option (List ℕ)) (old new : Option HostTold) → Changes failing (applied change) (change_call change) old new failed_call → Foretold failing (host_number old) failed_call → ChangedBy change false failing old new
+pub undone_by : (change : HostChange) (failing : Option (List ℕ)) (old new : Option HostTold)
+    → Changes failing (applied change) (change_call change) old new failed_call → Foretold failing (host_number old) failed_call
+    → ChangedBy change false failing old new
 undone_by change failing None new changes foretold = record { adds = tt; foretold_is = tt }
 undone_by change None (Some told) new (inl changes) foretold = record { adds = host_adds (change_call change false) _ told new changes; foretold_is = tt }
 undone_by change None (Some told) new (inr changes) foretold = record { adds = host_adds (change_call change false) _ told new changes; foretold_is = tt }
-undone_by change (Some failing) (Some told) new changes foretold = record { adds = host_adds (change_call change false) _ told new changes; foretold_is = (ap not (sym foretold), changes) }
+undone_by change (Some failing) (Some told) new changes foretold =
+    record { adds = host_adds (change_call change false) _ told new changes; foretold_is = (ap not (sym foretold), changes) }
 
-pub unchanged : (change : HostChange) (failing : Option (List ℕ)) (old new : Option HostTold) → Changes {T = Unit {0}} failing (applied change) (change_call change) old new no_memory → new ≡ old
+pub unchanged : (change : HostChange) (failing : Option (List ℕ)) (old new : Option HostTold)
+    → Changes {T = Unit {0}} failing (applied change) (change_call change) old new no_memory → new ≡ old
 unchanged change failing None new changes = changes
 unchanged change failing (Some told) new changes = changes
 
 -- ---- the store
 
-store_adds : (call : StoreCall) (files : List _) (told : StoreTold) (new : Option StoreTold) → new ≡ Some (store_answered call files told) → Adds (Some told.calls) (option_map (λ t. t.calls) new) (call ∷ [])
+store_adds : (call : StoreCall) (files : List _) (told : StoreTold) (new : Option StoreTold) → new ≡ Some (store_answered call files told)
+    → Adds (Some told.calls) (option_map (λ t. t.calls) new) (call ∷ [])
 store_adds call files told new same = subst (λ (n : Option StoreTold). Adds (Some told.calls) (option_map (λ t. t.calls) n) (call ∷ [])) (sym same) refl
 
-asides_here : (failing : Option StoreFails) (old new : Option StoreTold) (names : List (List ℕ)) → ListsAsides old new [] names done_call → StoreForetold failing (store_number old) done_call → AsidesBy (Some names) failing old new
+asides_here : (failing : Option StoreFails) (old new : Option StoreTold) (names : List (List ℕ)) → ListsAsides old new [] names done_call
+    → StoreForetold failing (store_number old) done_call → AsidesBy (Some names) failing old new
 asides_here failing None new names lists foretold = record { adds = tt; foretold_is = tt }
 asides_here None (Some told) new names lists foretold = record {
-  adds = subst (λ (ns : List (List ℕ)). Adds (Some told.calls) (option_map (λ t. t.calls) new) (ListedAsides (Some ns) ∷ [])) (sym lists.0) (store_adds (ListedAsides (Some (asides told.files))) told.files told new lists.1);
+  adds =
+      subst (λ (ns : List (List ℕ)). Adds (Some told.calls) (option_map (λ t. t.calls) new) (ListedAsides (Some ns) ∷ [])) (sym lists.0)
+      (store_adds (ListedAsides (Some (asides told.files))) told.files told new lists.1);
   foretold_is = tt;
 }
 asides_here (Some failing) (Some told) new names lists foretold = record {
-  adds = subst (λ (ns : List (List ℕ)). Adds (Some told.calls) (option_map (λ t. t.calls) new) (ListedAsides (Some ns) ∷ [])) (sym lists.0) (store_adds (ListedAsides (Some (asides told.files))) told.files told new lists.1);
+  adds =
+      subst (λ (ns : List (List ℕ)). Adds (Some told.calls) (option_map (λ t. t.calls) new) (ListedAsides (Some ns) ∷ [])) (sym lists.0)
+      (store_adds (ListedAsides (Some (asides told.files))) told.files told new lists.1);
   foretold_is = (
     ap (λ (ns : List (List ℕ)). Some ns) lists.0 ∙ ap (λ (b : Bool). cond b None (Some (asides told.files))) (sym foretold),
     lists.1 ∙ ap (λ (ns : List (List ℕ)). Some (store_answered (ListedAsides (Some ns)) told.files told)) (sym lists.0),
   );
 }
 
-pub asides_by : (failing : Option StoreFails) (old new : Option StoreTold) (before names : List (List ℕ)) → before ≡ [] → ListsAsides old new before names done_call → StoreForetold failing (store_number old) done_call → AsidesBy (Some names) failing old new
-asides_by failing old new before names empty lists foretold = asides_here failing old new names (subst (λ (b : List (List ℕ)). ListsAsides old new b names done_call) empty lists) foretold
+pub asides_by : (failing : Option StoreFails) (old new : Option StoreTold) (before names : List (List ℕ)) → before ≡ []
+    → ListsAsides old new before names done_call → StoreForetold failing (store_number old) done_call → AsidesBy (Some names) failing old new
+asides_by failing old new before names empty lists foretold =
+    asides_here failing old new names (subst (λ (b : List (List ℕ)). ListsAsides old new b names done_call) empty lists) foretold
 
-pub failed_asides_by : (failing : Option StoreFails) (old new : Option StoreTold) (before names : List (List ℕ)) → ListsAsides old new before names failed_call → StoreForetold failing (store_number old) failed_call → AsidesBy None failing old new
+pub failed_asides_by : (failing : Option StoreFails) (old new : Option StoreTold) (before names : List (List ℕ)) → ListsAsides old new before names failed_call
+    → StoreForetold failing (store_number old) failed_call → AsidesBy None failing old new
 failed_asides_by failing None new before names lists foretold = record { adds = tt; foretold_is = tt }
 failed_asides_by None (Some told) new before names lists foretold = record { adds = store_adds (ListedAsides None) told.files told new lists; foretold_is = tt }
 failed_asides_by (Some failing) (Some told) new before names lists foretold = record {
@@ -135,15 +166,25 @@ asides_unlisted (Some told) new before names lists = lists
 abbrev read_call : Bool → Result Bool DeviceAnswer
 read_call found = Ok found
 
-read_as : (name : List ℕ) (reading : Reading) (file : Option (List ℕ)) (failing : Option StoreFails) (told : StoreTold) (new : Option StoreTold) (found : Bool) → file_at name told.files ≡ file → reading_of file ≡ reading
-    → new ≡ Some (store_answered (ReadFile name (reading_of (file_at name told.files))) told.files told) → StoreForetold failing (store_number (Some told)) (read_call found) → ReadBy name reading failing (Some told) new
+read_as : (name : List ℕ) (reading : Reading) (file : Option (List ℕ)) (failing : Option StoreFails) (told : StoreTold) (new : Option StoreTold) (found : Bool)
+    → file_at name told.files ≡ file → reading_of file ≡ reading
+    → new ≡ Some (store_answered (ReadFile name (reading_of (file_at name told.files))) told.files told)
+    → StoreForetold failing (store_number (Some told)) (read_call found) → ReadBy name reading failing (Some told) new
 read_as name reading file None told new found file_is reading_is new_is foretold =
     let is : reading_of (file_at name told.files) ≡ reading = ap reading_of file_is ∙ reading_is in
-    record { adds = store_adds (ReadFile name reading) told.files told new (new_is ∙ ap (λ (r : Reading). Some (store_answered (ReadFile name r) told.files told)) is); foretold_is = tt }
+    record {
+      adds = store_adds (ReadFile name reading) told.files told new
+          (new_is ∙ ap (λ (r : Reading). Some (store_answered (ReadFile name r) told.files told)) is);
+      foretold_is = tt;
+    }
 read_as name reading file (Some failing) told new found file_is reading_is new_is foretold =
     let is : reading_of (file_at name told.files) ≡ reading = ap reading_of file_is ∙ reading_is in
-    let here : new ≡ Some (store_answered (ReadFile name reading) told.files told) = new_is ∙ ap (λ (r : Reading). Some (store_answered (ReadFile name r) told.files told)) is in
-    record { adds = store_adds (ReadFile name reading) told.files told new here; foretold_is = (sym is ∙ ap (λ (b : Bool). cond b Unread (reading_of (file_at name told.files))) (sym foretold), here) }
+    let here : new ≡ Some (store_answered (ReadFile name reading) told.files told) =
+    new_is ∙ ap (λ (r : Reading). Some (store_answered (ReadFile name r) told.files told)) is in
+    record {
+      adds = store_adds (ReadFile name reading) told.files told new here;
+      foretold_is = (sym is ∙ ap (λ (b : Bool). cond b Unread (reading_of (file_at name told.files))) (sym foretold), here);
+    }
 
 -- a file that was found
 found_in : (name before after : List ℕ) (file : Option (List ℕ)) → before ≡ [] → Appended file before after true → file ≡ Some after
@@ -154,20 +195,27 @@ missing_in : (before after : List ℕ) (file : Option (List ℕ)) → Appended f
 missing_in before after None appended = refl
 missing_in before after (Some bytes) appended = absurd (let bad : false ≡ true = appended.0 in cc)
 
-pub found_by : (name : List ℕ) (failing : Option StoreFails) (old new : Option StoreTold) (before after : List ℕ) → before ≡ [] → ReadsFile name old new before after (read_call true) → StoreForetold failing (store_number old) (read_call true) → ReadBy name (Found after) failing old new
+pub found_by : (name : List ℕ) (failing : Option StoreFails) (old new : Option StoreTold) (before after : List ℕ) → before ≡ []
+    → ReadsFile name old new before after (read_call true) → StoreForetold failing (store_number old) (read_call true)
+    → ReadBy name (Found after) failing old new
 found_by name failing None new before after empty reads foretold = record { adds = tt; foretold_is = tt }
-found_by name failing (Some told) new before after empty reads foretold = read_as name (Found after) (Some after) failing told new true (found_in name before after (file_at name told.files) empty reads.0) refl reads.1 foretold
+found_by name failing (Some told) new before after empty reads foretold =
+    read_as name (Found after) (Some after) failing told new true (found_in name before after (file_at name told.files) empty reads.0) refl reads.1 foretold
 
-pub missing_by : (name : List ℕ) (failing : Option StoreFails) (old new : Option StoreTold) (before after : List ℕ) → ReadsFile name old new before after (read_call false) → StoreForetold failing (store_number old) (read_call false) → ReadBy name Missing failing old new
+pub missing_by : (name : List ℕ) (failing : Option StoreFails) (old new : Option StoreTold) (before after : List ℕ)
+    → ReadsFile name old new before after (read_call false) → StoreForetold failing (store_number old) (read_call false) → ReadBy name Missing failing old new
 missing_by name failing None new before after reads foretold = record { adds = tt; foretold_is = tt }
-missing_by name failing (Some told) new before after reads foretold = read_as name Missing None failing told new false (missing_in before after (file_at name told.files) reads.0) refl reads.1 foretold
+missing_by name failing (Some told) new before after reads foretold =
+    read_as name Missing None failing told new false (missing_in before after (file_at name told.files) reads.0) refl reads.1 foretold
 
 abbrev unread_call : Result Bool DeviceAnswer
 unread_call = Err Answer.Failed
 
-pub unread_by : (name : List ℕ) (failing : Option StoreFails) (old new : Option StoreTold) (before after : List ℕ) → ReadsFile name old new before after unread_call → StoreForetold failing (store_number old) unread_call → ReadBy name Unread failing old new
+pub unread_by : (name : List ℕ) (failing : Option StoreFails) (old new : Option StoreTold) (before after : List ℕ)
+    → ReadsFile name old new before after unread_call → StoreForetold failing (store_number old) unread_call → ReadBy name Unread failing old new
 unread_by name failing None new before after reads foretold = record { adds = tt; foretold_is = tt }
-unread_by name None (Some told) new before after reads foretold = record { adds = store_adds (ReadFile name Unread) told.files told new reads; foretold_is = tt }
+unread_by name None (Some told) new before after reads foretold =
+    record { adds = store_adds (ReadFile name Unread) told.files told new reads; foretold_is = tt }
 unread_by name (Some failing) (Some told) new before after reads foretold = record {
   adds = store_adds (ReadFile name Unread) told.files told new reads;
   foretold_is = (ap (λ (b : Bool). cond b Unread (reading_of (file_at name told.files))) (sym foretold), reads);
@@ -177,86 +225,125 @@ pub not_read : (name : List ℕ) (old new : Option StoreTold) (before after : Li
 not_read name None new before after reads = reads
 not_read name (Some told) new before after reads = reads
 
-pub written_by : (name bytes : List ℕ) (failing : Option StoreFails) (old new : Option StoreTold) → ChangesFiles failing (put_file (record { name = aside_of name; bytes = bytes })) (WroteAside name bytes) old new done_call → StoreForetold failing (store_number old) done_call → WrittenBy name bytes true failing old new
+pub written_by : (name bytes : List ℕ) (failing : Option StoreFails) (old new : Option StoreTold)
+    → ChangesFiles failing (put_file (record { name = aside_of name; bytes = bytes })) (WroteAside name bytes) old new done_call
+    → StoreForetold failing (store_number old) done_call → WrittenBy name bytes true failing old new
 written_by name bytes failing None new changes foretold = record { adds = tt; foretold_is = tt }
 written_by name bytes None (Some told) new changes foretold = record { adds = store_adds (WroteAside name bytes true) _ told new changes; foretold_is = tt }
-written_by name bytes (Some failing) (Some told) new changes foretold = record { adds = store_adds (WroteAside name bytes true) _ told new changes; foretold_is = (ap not (sym foretold), changes) }
+written_by name bytes (Some failing) (Some told) new changes foretold =
+    record { adds = store_adds (WroteAside name bytes true) _ told new changes; foretold_is = (ap not (sym foretold), changes) }
 
-pub not_written_by : (name bytes : List ℕ) (failing : Option StoreFails) (old new : Option StoreTold) → ChangesFiles failing (put_file (record { name = aside_of name; bytes = bytes })) (WroteAside name bytes) old new failed_call → StoreForetold failing (store_number old) failed_call → WrittenBy name bytes false failing old new
+pub not_written_by : (name bytes : List ℕ) (failing : Option StoreFails) (old new : Option StoreTold)
+    → ChangesFiles failing (put_file (record { name = aside_of name; bytes = bytes })) (WroteAside name bytes) old new failed_call
+    → StoreForetold failing (store_number old) failed_call → WrittenBy name bytes false failing old new
 not_written_by name bytes failing None new changes foretold = record { adds = tt; foretold_is = tt }
-not_written_by name bytes None (Some told) new (inl changes) foretold = record { adds = store_adds (WroteAside name bytes false) _ told new changes; foretold_is = tt }
-not_written_by name bytes None (Some told) new (inr changes) foretold = record { adds = store_adds (WroteAside name bytes false) _ told new changes; foretold_is = tt }
-not_written_by name bytes (Some failing) (Some told) new changes foretold = record { adds = store_adds (WroteAside name bytes false) _ told new changes; foretold_is = (ap not (sym foretold), changes) }
+not_written_by name bytes None (Some told) new (inl changes) foretold =
+    record { adds = store_adds (WroteAside name bytes false) _ told new changes; foretold_is = tt }
+not_written_by name bytes None (Some told) new (inr changes) foretold =
+    record { adds = store_adds (WroteAside name bytes false) _ told new changes; foretold_is = tt }
+not_written_by name bytes (Some failing) (Some told) new changes foretold =
+    record { adds = store_adds (WroteAside name bytes false) _ told new changes; foretold_is = (ap not (sym foretold), changes) }
 
-pub synced_by : (name : List ℕ) (failing : Option StoreFails) (old new : Option StoreTold) → ChangesFiles failing (λ files. files) (SyncedAside name) old new done_call → StoreForetold failing (store_number old) done_call → SyncedBy name true failing old new
+pub synced_by : (name : List ℕ) (failing : Option StoreFails) (old new : Option StoreTold)
+    → ChangesFiles failing (λ files. files) (SyncedAside name) old new done_call → StoreForetold failing (store_number old) done_call
+    → SyncedBy name true failing old new
 synced_by name failing None new changes foretold = record { adds = tt; foretold_is = tt }
 synced_by name None (Some told) new changes foretold = record { adds = store_adds (SyncedAside name true) _ told new changes; foretold_is = tt }
-synced_by name (Some failing) (Some told) new changes foretold = record { adds = store_adds (SyncedAside name true) _ told new changes; foretold_is = (ap not (sym foretold), changes) }
+synced_by name (Some failing) (Some told) new changes foretold =
+    record { adds = store_adds (SyncedAside name true) _ told new changes; foretold_is = (ap not (sym foretold), changes) }
 
-pub not_synced_by : (name : List ℕ) (failing : Option StoreFails) (old new : Option StoreTold) → ChangesFiles failing (λ files. files) (SyncedAside name) old new failed_call → StoreForetold failing (store_number old) failed_call → SyncedBy name false failing old new
+pub not_synced_by : (name : List ℕ) (failing : Option StoreFails) (old new : Option StoreTold)
+    → ChangesFiles failing (λ files. files) (SyncedAside name) old new failed_call → StoreForetold failing (store_number old) failed_call
+    → SyncedBy name false failing old new
 not_synced_by name failing None new changes foretold = record { adds = tt; foretold_is = tt }
 not_synced_by name None (Some told) new (inl changes) foretold = record { adds = store_adds (SyncedAside name false) _ told new changes; foretold_is = tt }
 not_synced_by name None (Some told) new (inr changes) foretold = record { adds = store_adds (SyncedAside name false) _ told new changes; foretold_is = tt }
-not_synced_by name (Some failing) (Some told) new changes foretold = record { adds = store_adds (SyncedAside name false) _ told new changes; foretold_is = (ap not (sym foretold), changes) }
+not_synced_by name (Some failing) (Some told) new changes foretold =
+    record { adds = store_adds (SyncedAside name false) _ told new changes; foretold_is = (ap not (sym foretold), changes) }
 
-pub renamed_by : (name : List ℕ) (failing : Option StoreFails) (old new : Option StoreTold) → ChangesFiles failing (λ files. rename_file name (file_at (aside_of name) files) files) (RenamedAside name) old new done_call → RenameForetold failing name old done_call → RenamedBy name true failing old new
+pub renamed_by : (name : List ℕ) (failing : Option StoreFails) (old new : Option StoreTold)
+    → ChangesFiles failing (λ files. rename_file name (file_at (aside_of name) files) files) (RenamedAside name) old new done_call
+    → RenameForetold failing name old done_call → RenamedBy name true failing old new
 renamed_by name failing None new changes foretold = record { adds = tt; foretold_is = tt }
 renamed_by name None (Some told) new changes foretold = record { adds = store_adds (RenamedAside name true) _ told new changes; foretold_is = tt }
-renamed_by name (Some failing) (Some told) new changes foretold = record { adds = store_adds (RenamedAside name true) _ told new changes; foretold_is = (ap not (sym foretold), changes) }
+renamed_by name (Some failing) (Some told) new changes foretold =
+    record { adds = store_adds (RenamedAside name true) _ told new changes; foretold_is = (ap not (sym foretold), changes) }
 
-pub not_renamed_by : (name : List ℕ) (failing : Option StoreFails) (old new : Option StoreTold) → ChangesFiles failing (λ files. rename_file name (file_at (aside_of name) files) files) (RenamedAside name) old new failed_call → RenameForetold failing name old failed_call → RenamedBy name false failing old new
+pub not_renamed_by : (name : List ℕ) (failing : Option StoreFails) (old new : Option StoreTold)
+    → ChangesFiles failing (λ files. rename_file name (file_at (aside_of name) files) files) (RenamedAside name) old new failed_call
+    → RenameForetold failing name old failed_call → RenamedBy name false failing old new
 not_renamed_by name failing None new changes foretold = record { adds = tt; foretold_is = tt }
 not_renamed_by name None (Some told) new (inl changes) foretold = record { adds = store_adds (RenamedAside name false) _ told new changes; foretold_is = tt }
 not_renamed_by name None (Some told) new (inr changes) foretold = record { adds = store_adds (RenamedAside name false) _ told new changes; foretold_is = tt }
-not_renamed_by name (Some failing) (Some told) new changes foretold = record { adds = store_adds (RenamedAside name false) _ told new changes; foretold_is = (ap not (sym foretold), changes) }
+not_renamed_by name (Some failing) (Some told) new changes foretold =
+    record { adds = store_adds (RenamedAside name false) _ told new changes; foretold_is = (ap not (sym foretold), changes) }
 
-pub removed_by : (name : List ℕ) (failing : Option StoreFails) (old new : Option StoreTold) → ChangesFiles failing (drop_file name) (RemovedFile name) old new done_call → StoreForetold failing (store_number old) done_call → RemovedBy name true failing old new
+pub removed_by : (name : List ℕ) (failing : Option StoreFails) (old new : Option StoreTold)
+    → ChangesFiles failing (drop_file name) (RemovedFile name) old new done_call → StoreForetold failing (store_number old) done_call
+    → RemovedBy name true failing old new
 removed_by name failing None new changes foretold = record { adds = tt; foretold_is = tt }
 removed_by name None (Some told) new changes foretold = record { adds = store_adds (RemovedFile name true) _ told new changes; foretold_is = tt }
-removed_by name (Some failing) (Some told) new changes foretold = record { adds = store_adds (RemovedFile name true) _ told new changes; foretold_is = (ap not (sym foretold), changes) }
+removed_by name (Some failing) (Some told) new changes foretold =
+    record { adds = store_adds (RemovedFile name true) _ told new changes; foretold_is = (ap not (sym foretold), changes) }
 
-pub unremoved_by : (name : List ℕ) (failing : Option StoreFails) (old new : Option StoreTold) → ChangesFiles failing (drop_file name) (RemovedFile name) old new failed_call → StoreForetold failing (store_number old) failed_call → RemovedBy name false failing old new
+pub unremoved_by : (name : List ℕ) (failing : Option StoreFails) (old new : Option StoreTold)
+    → ChangesFiles failing (drop_file name) (RemovedFile name) old new failed_call → StoreForetold failing (store_number old) failed_call
+    → RemovedBy name false failing old new
 unremoved_by name failing None new changes foretold = record { adds = tt; foretold_is = tt }
 unremoved_by name None (Some told) new (inl changes) foretold = record { adds = store_adds (RemovedFile name false) _ told new changes; foretold_is = tt }
 unremoved_by name None (Some told) new (inr changes) foretold = record { adds = store_adds (RemovedFile name false) _ told new changes; foretold_is = tt }
-unremoved_by name (Some failing) (Some told) new changes foretold = record { adds = store_adds (RemovedFile name false) _ told new changes; foretold_is = (ap not (sym foretold), changes) }
+unremoved_by name (Some failing) (Some told) new changes foretold =
+    record { adds = store_adds (RemovedFile name false) _ told new changes; foretold_is = (ap not (sym foretold), changes) }
 
-pub settled_by : (failing : Option StoreFails) (old new : Option StoreTold) → ChangesFiles failing (λ files. files) SettledFiles old new done_call → StoreForetold failing (store_number old) done_call → SettledBy true failing old new
+pub settled_by : (failing : Option StoreFails) (old new : Option StoreTold) → ChangesFiles failing (λ files. files) SettledFiles old new done_call
+    → StoreForetold failing (store_number old) done_call → SettledBy true failing old new
 settled_by failing None new changes foretold = record { adds = tt; foretold_is = tt }
 settled_by None (Some told) new changes foretold = record { adds = store_adds (SettledFiles true) _ told new changes; foretold_is = tt }
-settled_by (Some failing) (Some told) new changes foretold = record { adds = store_adds (SettledFiles true) _ told new changes; foretold_is = (ap not (sym foretold), changes) }
+settled_by (Some failing) (Some told) new changes foretold =
+    record { adds = store_adds (SettledFiles true) _ told new changes; foretold_is = (ap not (sym foretold), changes) }
 
-pub unsettled_by : (failing : Option StoreFails) (old new : Option StoreTold) → ChangesFiles failing (λ files. files) SettledFiles old new failed_call → StoreForetold failing (store_number old) failed_call → SettledBy false failing old new
+pub unsettled_by : (failing : Option StoreFails) (old new : Option StoreTold) → ChangesFiles failing (λ files. files) SettledFiles old new failed_call
+    → StoreForetold failing (store_number old) failed_call → SettledBy false failing old new
 unsettled_by failing None new changes foretold = record { adds = tt; foretold_is = tt }
 unsettled_by None (Some told) new (inl changes) foretold = record { adds = store_adds (SettledFiles false) _ told new changes; foretold_is = tt }
 unsettled_by None (Some told) new (inr changes) foretold = record { adds = store_adds (SettledFiles false) _ told new changes; foretold_is = tt }
-unsettled_by (Some failing) (Some told) new changes foretold = record { adds = store_adds (SettledFiles false) _ told new changes; foretold_is = (ap not (sym foretold), changes) }
+unsettled_by (Some failing) (Some told) new changes foretold =
+    record { adds = store_adds (SettledFiles false) _ told new changes; foretold_is = (ap not (sym foretold), changes) }
 
-pub unwritten : (failing : Option StoreFails) (change : _) (call : Bool → StoreCall) (old new : Option StoreTold) → ChangesFiles {T = Unit {0}} failing change call old new no_memory → new ≡ old
+pub unwritten : (failing : Option StoreFails) (change : _) (call : Bool → StoreCall) (old new : Option StoreTold)
+    → ChangesFiles {T = Unit {0}} failing change call old new no_memory → new ≡ old
 unwritten failing change call None new changes = changes
 unwritten failing change call (Some told) new changes = changes
 
 -- ---- how a store answered a listing and a reading
 
-listing_done : (failing : Option StoreFails) (told : StoreTold) (names : List (List ℕ)) → StoreForetold failing (store_number (Some told)) done_call → IsDoneAsTold failing (ListedAsides (Some names)) told
+listing_done : (failing : Option StoreFails) (told : StoreTold) (names : List (List ℕ)) → StoreForetold failing (store_number (Some told)) done_call
+    → IsDoneAsTold failing (ListedAsides (Some names)) told
 listing_done None told names foretold = tt
 listing_done (Some fails) told names foretold = foretold
 
-listing_failed : (failing : Option StoreFails) (told : StoreTold) → StoreForetold failing (store_number (Some told)) failed_call → IsDoneAsTold failing (ListedAsides None) told
+listing_failed : (failing : Option StoreFails) (told : StoreTold) → StoreForetold failing (store_number (Some told)) failed_call
+    → IsDoneAsTold failing (ListedAsides None) told
 listing_failed None told foretold = tt
 listing_failed (Some fails) told foretold = foretold
 
 -- a call that leaves the files as they were
-left_alone : (failing : Option StoreFails) (call : StoreCall) (files : List StoreFile) → was_done call ≡ true → files_by call files ≡ files → LeavesAsTold failing call files files
+left_alone : (failing : Option StoreFails) (call : StoreCall) (files : List StoreFile) → was_done call ≡ true → files_by call files ≡ files
+    → LeavesAsTold failing call files files
 left_alone None call files done same = inl (sym same)
 left_alone (Some fails) call files done same = sym (ap (λ (b : Bool). cond b (files_by call files) files) done ∙ same)
 
-answered_alone : (failing : Option StoreFails) (call : StoreCall) (told : StoreTold) (new : Option StoreTold) → IsDoneAsTold failing call told → IsTrueOf call told → was_done call ≡ true
+answered_alone : (failing : Option StoreFails) (call : StoreCall) (told : StoreTold) (new : Option StoreTold) → IsDoneAsTold failing call told
+    → IsTrueOf call told → was_done call ≡ true
     → files_by call told.files ≡ told.files → new ≡ Some (store_answered call told.files told) → Answered failing (call ∷ []) (Some told) new
-answered_alone failing call told new done truly was same new_is =
-    (store_answered call told.files told, new_is, (told.files, record { done = done; truly = truly; leaves = left_alone failing call told.files was same }, refl))
+answered_alone failing call told new done truly was same new_is = (
+  store_answered call told.files told,
+  new_is,
+  (told.files, record { done = done; truly = truly; leaves = left_alone failing call told.files was same }, refl),
+)
 
-pub asides_answered : (failing : Option StoreFails) (old new : Option StoreTold) (before names : List (List ℕ)) → before ≡ [] → ListsAsides old new before names done_call
+pub asides_answered : (failing : Option StoreFails) (old new : Option StoreTold) (before names : List (List ℕ)) → before ≡ []
+    → ListsAsides old new before names done_call
     → StoreForetold failing (store_number old) done_call → Answered failing (ListedAsides (Some names) ∷ []) old new
 asides_answered failing None new before names empty lists foretold = lists
 asides_answered failing (Some told) new before names empty lists foretold =
@@ -264,42 +351,54 @@ asides_answered failing (Some told) new before names empty lists foretold =
     answered_alone failing (ListedAsides (Some names)) told new (listing_done failing told names foretold) is refl refl
     (lists.1 ∙ ap (λ (ns : List (List ℕ)). Some (store_answered (ListedAsides (Some ns)) told.files told)) (sym is))
 
-pub no_asides_answered : (failing : Option StoreFails) (old new : Option StoreTold) (before names : List (List ℕ)) → ListsAsides old new before names failed_call
+pub no_asides_answered : (failing : Option StoreFails) (old new : Option StoreTold) (before names : List (List ℕ))
+    → ListsAsides old new before names failed_call
     → StoreForetold failing (store_number old) failed_call → Answered failing (ListedAsides None ∷ []) old new
 no_asides_answered failing None new before names lists foretold = lists
 no_asides_answered failing (Some told) new before names lists foretold =
     answered_alone failing (ListedAsides None) told new (listing_failed failing told foretold) tt refl refl lists
 
-found_done : (failing : Option StoreFails) (name bytes : List ℕ) (told : StoreTold) → StoreForetold failing (store_number (Some told)) (read_call true) → IsDoneAsTold failing (ReadFile name (Found bytes)) told
+found_done : (failing : Option StoreFails) (name bytes : List ℕ) (told : StoreTold) → StoreForetold failing (store_number (Some told)) (read_call true)
+    → IsDoneAsTold failing (ReadFile name (Found bytes)) told
 found_done None name bytes told foretold = tt
 found_done (Some fails) name bytes told foretold = foretold
 
-missing_done : (failing : Option StoreFails) (name : List ℕ) (told : StoreTold) → StoreForetold failing (store_number (Some told)) (read_call false) → IsDoneAsTold failing (ReadFile name Missing) told
+missing_done : (failing : Option StoreFails) (name : List ℕ) (told : StoreTold) → StoreForetold failing (store_number (Some told)) (read_call false)
+    → IsDoneAsTold failing (ReadFile name Missing) told
 missing_done None name told foretold = tt
 missing_done (Some fails) name told foretold = foretold
 
-unread_done : (failing : Option StoreFails) (name : List ℕ) (told : StoreTold) → StoreForetold failing (store_number (Some told)) unread_call → IsDoneAsTold failing (ReadFile name Unread) told
+unread_done : (failing : Option StoreFails) (name : List ℕ) (told : StoreTold) → StoreForetold failing (store_number (Some told)) unread_call
+    → IsDoneAsTold failing (ReadFile name Unread) told
 unread_done None name told foretold = tt
 unread_done (Some fails) name told foretold = foretold
 
-read_answered : (failing : Option StoreFails) (name : List ℕ) (reading : Reading) (told : StoreTold) (new : Option StoreTold) → IsDoneAsTold failing (ReadFile name reading) told
-    → reading_of (file_at name told.files) ≡ reading → new ≡ Some (store_answered (ReadFile name (reading_of (file_at name told.files))) told.files told) → Answered failing (ReadFile name reading ∷ []) (Some told) new
+read_answered : (failing : Option StoreFails) (name : List ℕ) (reading : Reading) (told : StoreTold) (new : Option StoreTold)
+    → IsDoneAsTold failing (ReadFile name reading) told
+    → reading_of (file_at name told.files) ≡ reading → new ≡ Some (store_answered (ReadFile name (reading_of (file_at name told.files))) told.files told)
+    → Answered failing (ReadFile name reading ∷ []) (Some told) new
 read_answered failing name reading told new done is new_is =
-    answered_alone failing (ReadFile name reading) told new done (inr (sym is)) refl refl (new_is ∙ ap (λ (r : Reading). Some (store_answered (ReadFile name r) told.files told)) is)
+    answered_alone failing (ReadFile name reading) told new done (inr (sym is)) refl refl
+    (new_is ∙ ap (λ (r : Reading). Some (store_answered (ReadFile name r) told.files told)) is)
 
-pub found_answered : (name : List ℕ) (failing : Option StoreFails) (old new : Option StoreTold) (before after : List ℕ) → before ≡ [] → ReadsFile name old new before after (read_call true)
+pub found_answered : (name : List ℕ) (failing : Option StoreFails) (old new : Option StoreTold) (before after : List ℕ) → before ≡ []
+    → ReadsFile name old new before after (read_call true)
     → StoreForetold failing (store_number old) (read_call true) → Answered failing (ReadFile name (Found after) ∷ []) old new
 found_answered name failing None new before after empty reads foretold = reads
 found_answered name failing (Some told) new before after empty reads foretold =
-    read_answered failing name (Found after) told new (found_done failing name after told foretold) (ap reading_of (found_in name before after (file_at name told.files) empty reads.0)) reads.1
+    read_answered failing name (Found after) told new (found_done failing name after told foretold)
+    (ap reading_of (found_in name before after (file_at name told.files) empty reads.0)) reads.1
 
-pub missing_answered : (name : List ℕ) (failing : Option StoreFails) (old new : Option StoreTold) (before after : List ℕ) → ReadsFile name old new before after (read_call false)
+pub missing_answered : (name : List ℕ) (failing : Option StoreFails) (old new : Option StoreTold) (before after : List ℕ)
+    → ReadsFile name old new before after (read_call false)
     → StoreForetold failing (store_number old) (read_call false) → Answered failing (ReadFile name Missing ∷ []) old new
 missing_answered name failing None new before after reads foretold = reads
 missing_answered name failing (Some told) new before after reads foretold =
-    read_answered failing name Missing told new (missing_done failing name told foretold) (ap reading_of (missing_in before after (file_at name told.files) reads.0)) reads.1
+    read_answered failing name Missing told new (missing_done failing name told foretold)
+    (ap reading_of (missing_in before after (file_at name told.files) reads.0)) reads.1
 
-pub unread_answered : (name : List ℕ) (failing : Option StoreFails) (old new : Option StoreTold) (before after : List ℕ) → ReadsFile name old new before after unread_call
+pub unread_answered : (name : List ℕ) (failing : Option StoreFails) (old new : Option StoreTold) (before after : List ℕ)
+    → ReadsFile name old new before after unread_call
     → StoreForetold failing (store_number old) unread_call → Answered failing (ReadFile name Unread ∷ []) old new
 unread_answered name failing None new before after reads foretold = reads
 unread_answered name failing (Some told) new before after reads foretold =
@@ -307,34 +406,42 @@ unread_answered name failing (Some told) new before after reads foretold =
 
 -- ---- hooks
 
-hooks_add : (call : HookCall) (told : HooksTold) (new : Option HooksTold) → new ≡ Some (hooks_answered call told) → Adds (Some told.calls) (option_map (λ t. t.calls) new) (call ∷ [])
+hooks_add : (call : HookCall) (told : HooksTold) (new : Option HooksTold) → new ≡ Some (hooks_answered call told)
+    → Adds (Some told.calls) (option_map (λ t. t.calls) new) (call ∷ [])
 hooks_add call told new same = subst (λ (n : Option HooksTold). Adds (Some told.calls) (option_map (λ t. t.calls) n) (call ∷ [])) (sym same) refl
 
-pub started_by : (job : Job) (failing : Option (List ℕ)) (old new : Option HooksTold) → StartsJob job old new done_call → Foretold failing (start_number old) done_call → StartedBy job true failing old new
+pub started_by : (job : Job) (failing : Option (List ℕ)) (old new : Option HooksTold) → StartsJob job old new done_call
+    → Foretold failing (start_number old) done_call → StartedBy job true failing old new
 started_by job failing None new starts foretold = record { adds = tt; foretold_is = tt }
 started_by job None (Some told) new starts foretold = record { adds = hooks_add (Started job true) told new starts; foretold_is = tt }
-started_by job (Some failing) (Some told) new starts foretold = record { adds = hooks_add (Started job true) told new starts; foretold_is = (ap not (sym foretold), starts) }
+started_by job (Some failing) (Some told) new starts foretold =
+    record { adds = hooks_add (Started job true) told new starts; foretold_is = (ap not (sym foretold), starts) }
 
-pub unstarted_by : (job : Job) (failing : Option (List ℕ)) (old new : Option HooksTold) → StartsJob job old new failed_call → Foretold failing (start_number old) failed_call → StartedBy job false failing old new
+pub unstarted_by : (job : Job) (failing : Option (List ℕ)) (old new : Option HooksTold) → StartsJob job old new failed_call
+    → Foretold failing (start_number old) failed_call → StartedBy job false failing old new
 unstarted_by job failing None new starts foretold = record { adds = tt; foretold_is = tt }
 unstarted_by job None (Some told) new starts foretold = record { adds = hooks_add (Started job false) told new starts; foretold_is = tt }
-unstarted_by job (Some failing) (Some told) new starts foretold = record { adds = hooks_add (Started job false) told new starts; foretold_is = (ap not (sym foretold), starts) }
+unstarted_by job (Some failing) (Some told) new starts foretold =
+    record { adds = hooks_add (Started job false) told new starts; foretold_is = (ap not (sym foretold), starts) }
 
 pub unasked_start : (job : Job) (old new : Option HooksTold) → StartsJob {T = Unit {0}} job old new no_memory → new ≡ old
 unasked_start job None new starts = starts
 unasked_start job (Some told) new starts = starts
 
-polled_add : (answer : Option Poll) (told : HooksTold) (new : Option HooksTold) → answer ≡ next_answer told.polls → new ≡ Some (polled told) → Adds (Some told.calls) (option_map (λ t. t.calls) new) (Polled answer ∷ [])
+polled_add : (answer : Option Poll) (told : HooksTold) (new : Option HooksTold) → answer ≡ next_answer told.polls → new ≡ Some (polled told)
+    → Adds (Some told.calls) (option_map (λ t. t.calls) new) (Polled answer ∷ [])
 polled_add answer told new said same =
     subst (λ (n : Option HooksTold). Adds (Some told.calls) (option_map (λ t. t.calls) n) (Polled answer ∷ [])) (sym same)
     (ap (λ (a : Option Poll). told.calls ++ Polled a ∷ []) (sym said))
 
-pub polled_by : (result : Result Poll Failed) (failing : Option (List ℕ)) (old new : Option HooksTold) → AnswersPoll old new result → PolledBy (said_by_poll result) failing old new
+pub polled_by : (result : Result Poll Failed) (failing : Option (List ℕ)) (old new : Option HooksTold) → AnswersPoll old new result
+    → PolledBy (said_by_poll result) failing old new
 polled_by result failing None new answers = record { adds = tt; foretold_is = tt }
 polled_by result None (Some told) new answers = record { adds = polled_add (said_by_poll result) told new answers.0 answers.1; foretold_is = tt }
 polled_by result (Some failing) (Some told) new answers = record { adds = polled_add (said_by_poll result) told new answers.0 answers.1; foretold_is = answers }
 
-pub abandoned_by : (failing : Option (List ℕ)) (running : Bool) (old new : Option HooksTold) → running ≡ true → Abandons running old new → AbandonedBy failing old new
+pub abandoned_by : (failing : Option (List ℕ)) (running : Bool) (old new : Option HooksTold) → running ≡ true → Abandons running old new
+    → AbandonedBy failing old new
 abandoned_by failing running None new runs abandons = record { adds = tt; foretold_is = tt }
 abandoned_by failing false (Some told) new runs abandons = absurd cc
 abandoned_by None true (Some told) new runs abandons = record { adds = hooks_add Abandoned told new abandons; foretold_is = tt }

@@ -20,24 +20,28 @@ err_so (Err e) f p = f p
 -- ---- one question
 
 -- it was asked, and no more
-pub asked_only : {A : Type 0} (ask : Ask) (next : AnswerTo ask → Asks A) (answer : AnswerTo ask) (old new : Seen) (t u : List ℕ) → Does (Then ask Done) answer old new t u → HasBegun (Then ask next) old new
+pub asked_only : {A : Type 0} (ask : Ask) (next : AnswerTo ask → Asks A) (answer : AnswerTo ask) (old new : Seen) (t u : List ℕ)
+    → Does (Then ask Done) answer old new t u → HasBegun (Then ask next) old new
 asked_only ask next answer old new t u did = begun_ask ask next old new (begun_all (Then ask Done) answer old new t u did)
 
 -- it was asked, and its answer leads on
-pub leads_on : {A : Type 0} (ask : Ask) (next : AnswerTo ask → Asks A) (answer : AnswerTo ask) (more : Asks A) (old mid new : Seen) (t u : List ℕ) → next answer ≡ more
+pub leads_on : {A : Type 0} (ask : Ask) (next : AnswerTo ask → Asks A) (answer : AnswerTo ask) (more : Asks A) (old mid new : Seen) (t u : List ℕ)
+    → next answer ≡ more
     → Does (Then ask Done) answer old mid t u → HasBegun more mid new → HasBegun (Then ask next) old new
 leads_on {A} ask next answer more old mid new t u is did begun =
     begun_next ask next answer old mid new t u did (subst (λ (asks : Asks A). HasBegun asks mid new) (sym is) begun)
 
 -- ---- a front of the second of two, whatever comes of the first
 
-fronts_wider : {A B C : Type 0} (asks : Asks A) (more : A → Asks B) (wider : A → Asks C) → ((x : A) (calls : List Call) → Fronts (more x) calls → Fronts (wider x) calls)
+fronts_wider : {A B C : Type 0} (asks : Asks A) (more : A → Asks B) (wider : A → Asks C)
+    → ((x : A) (calls : List Call) → Fronts (more x) calls → Fronts (wider x) calls)
     → (calls : List Call) → Fronts (after asks more) calls → Fronts (after asks wider) calls
 fronts_wider (Done x) more wider widens calls front = widens x calls front
 fronts_wider (Then ask next) more wider widens [] front = tt
 fronts_wider (Then ask next) more wider widens (call ∷ calls) front = (front.0, front.1, fronts_wider (next front.0) more wider widens calls front.2)
 
-pub begun_wider : {A B C : Type 0} (asks : Asks A) (more : A → Asks B) (wider : A → Asks C) → ((x : A) (calls : List Call) → Fronts (more x) calls → Fronts (wider x) calls)
+pub begun_wider : {A B C : Type 0} (asks : Asks A) (more : A → Asks B) (wider : A → Asks C)
+    → ((x : A) (calls : List Call) → Fronts (more x) calls → Fronts (wider x) calls)
     → (old new : Seen) → HasBegun (after asks more) old new → HasBegun (after asks wider) old new
 begun_wider asks more wider widens old new begun =
     record { calls = begun.calls; front = fronts_wider asks more wider widens begun.calls begun.front; tells = begun.tells }

@@ -35,7 +35,8 @@ abbrev pub failed : {B E : Type 0} → E → Result B E
 failed e = Err e
 
 -- the error that `?` handed on is the one that came
-pub error_was : {A B E : Type 0} (r : Result A E) (error other : E) → IsErrAnd r (λ e. e ≡ error) → r ≡ Err other → failed {B = B} {E = E} error ≡ failed {B = B} {E = E} other
+pub error_was : {A B E : Type 0} (r : Result A E) (error other : E) → IsErrAnd r (λ e. e ≡ error) → r ≡ Err other
+    → failed {B = B} {E = E} error ≡ failed {B = B} {E = E} other
 error_was {A} {B} {E} r error other is same = ap (λ (e : E). failed {B = B} {E = E} e) (sym (subst (λ (x : Result A E). IsErrAnd x (λ e. e ≡ error)) same is))
 
 -- writing failed, or memory was wanted, after waits that didn't fail

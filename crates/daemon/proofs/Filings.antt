@@ -75,7 +75,8 @@ later_turns managed from [] b turns = turns
 later_turns managed from (met ∷ a) b turns = later_turns managed met.life a b turns.1
 
 -- what was asked where a life was cut off
-cut_front : (end : ServeEnd) (managed : List Managed) (life : Life) (at : CutAt) (calls : List Call) → CutsAt end managed life at calls → AreTurns managed life (cut_turns at)
+cut_front : (end : ServeEnd) (managed : List Managed) (life : Life) (at : CutAt) (calls : List Call) → CutsAt end managed life at calls
+    → AreTurns managed life (cut_turns at)
     → FrontOfTurn managed life calls
 cut_front ends.End managed life at calls cuts turns = absurd cuts
 cut_front ends.TurnsOver managed life (Between rest) calls cuts turns = subst (FrontOfTurn managed life) (sym cuts.0) tt
@@ -95,14 +96,22 @@ cut_front ends.NoMemory managed life AtEnd calls cuts turns = last_front managed
 
 module _ (old mid new : Seen) (only : OnlyLink old mid) where
   answers_since : (calls : List Call) → Tells mid new calls → Answered old.store.failing (flat_map store_call calls) old.store.told new.store.told
-  answers_since calls tells = subst (λ (s : Device StoreTold StoreFails). Answered s.failing (flat_map store_call calls) s.told new.store.told) only.store tells.answers
+  answers_since calls tells =
+      subst (λ (s : Device StoreTold StoreFails). Answered s.failing (flat_map store_call calls) s.told new.store.told) only.store tells.answers
 
   counts_since : (calls : List Call) → Tells mid new calls → CountsEach old new calls
   counts_since calls tells = record {
     sends = subst (λ (n : ℕ). CountsFailed failed_send (flat_map link_call calls) n new.link.faults) only.sends tells.counts.sends;
-    host = subst (λ (h : Device HostTold (List ℕ)). CountsFailed failed_host_call (flat_map host_call calls) h.faults new.host.faults) only.host tells.counts.host;
-    store = subst (λ (s : Device StoreTold StoreFails). CountsFailed failed_store_call (flat_map store_call calls) s.faults new.store.faults) only.store tells.counts.store;
-    hooks = subst (λ (h : Device HooksTold (List ℕ)). CountsFailed failed_hook_call (flat_map hook_call calls) h.faults new.hooks.faults) only.hooks tells.counts.hooks;
+    host =
+        subst (λ (h : Device HostTold (List ℕ)). CountsFailed failed_host_call (flat_map host_call calls) h.faults new.host.faults) only.host tells.counts.host;
+    store =
+        subst
+        (λ (s : Device StoreTold StoreFails). CountsFailed failed_store_call (flat_map store_call calls) s.faults new.store.faults) only.store
+        tells.counts.store;
+    hooks =
+        subst
+        (λ (h : Device HooksTold (List ℕ)). CountsFailed failed_hook_call (flat_map hook_call calls) h.faults new.hooks.faults) only.hooks
+        tells.counts.hooks;
   }
 
 whole_where_told : (managed : List Managed) (specs : List IfSpec) (old : Seen) (calls : List Call) → FrontOfLife managed specs calls → (told : Option StoreTold)
@@ -123,12 +132,14 @@ files_since managed specs old new begun calls front tells = record {
 -- ---- each end of a life
 
 after_opening : (managed : List Managed) (specs : List IfSpec) (opening : OpeningMet) (mets : List Met) (last : List Call) → IsOpening managed specs opening
-    → AreTurns managed opening.life mets → FrontOfTurn managed (life_after opening.life mets) last → FrontOfLife managed specs (opening.calls ++ (turns_calls opening.life mets ++ last))
+    → AreTurns managed opening.life mets → FrontOfTurn managed (life_after opening.life mets) last
+    → FrontOfLife managed specs (opening.calls ++ (turns_calls opening.life mets ++ last))
 after_opening managed specs opening mets last opens turns front =
     inr (record { opening = opening; mets = mets; last = last; opens = opens; turns = turns; front = front; calls_are = refl })
 
 -- it was lived to its end
-pub filed_served : (allowed : ℕ) (managed : List Managed) (specs : List IfSpec) (old new : Seen) (out_from out_to : Option (List ℕ)) → Served allowed managed specs old new out_from out_to
+pub filed_served : (allowed : ℕ) (managed : List Managed) (specs : List IfSpec) (old new : Seen) (out_from out_to : Option (List ℕ))
+    → Served allowed managed specs old new out_from out_to
     → LeavesFiled managed specs old new
 filed_served allowed managed specs old new out_from out_to served =
     files_since managed specs old new served.begun (served.opening.calls ++ (turns_calls served.opening.life served.mets ++ served.last))
@@ -136,22 +147,28 @@ filed_served allowed managed specs old new out_from out_to served =
     (last_front managed (life_after served.opening.life served.mets) served.last served.last_is)) served.tells
 
 -- it was cut off
-filed_opening : (end : ServeEnd) (managed : List Managed) (specs : List IfSpec) (old new : Seen) (out_from out_to : Option (List ℕ)) → CutOpening end managed specs old new out_from out_to
+filed_opening : (end : ServeEnd) (managed : List Managed) (specs : List IfSpec) (old new : Seen) (out_from out_to : Option (List ℕ))
+    → CutOpening end managed specs old new out_from out_to
     → LeavesFiled managed specs old new
 filed_opening end managed specs old new out_from out_to cut =
     files_since managed specs old new cut.begun cut.opening.calls
-    (inl (record { begin = cut.opening.begin; front = asked_front (opening_asks managed specs cut.opening.begin) cut.opening.calls cut.opening.life cut.opens })) cut.tells
+    (inl
+    (record { begin = cut.opening.begin; front = asked_front (opening_asks managed specs cut.opening.begin) cut.opening.calls cut.opening.life cut.opens }))
+    cut.tells
 
 filed_life : (end : ServeEnd) (allowed : ℕ) (managed : List Managed) (specs : List IfSpec) (old new : Seen) (out_from out_to : Option (List ℕ))
     → CutLife end allowed managed specs old new out_from out_to → LeavesFiled managed specs old new
 filed_life end allowed managed specs old new out_from out_to cut =
     files_since managed specs old new cut.begun (cut.opening.calls ++ (turns_calls cut.opening.life cut.mets ++ cut.calls))
     (after_opening managed specs cut.opening cut.mets cut.calls cut.opens (first_turns managed cut.opening.life cut.mets (cut_turns cut.at) cut.turns)
-    (cut_front end managed (life_after cut.opening.life cut.mets) cut.at cut.calls cut.cuts (later_turns managed cut.opening.life cut.mets (cut_turns cut.at) cut.turns))) cut.tells
+    (cut_front end managed (life_after cut.opening.life cut.mets) cut.at cut.calls cut.cuts
+    (later_turns managed cut.opening.life cut.mets (cut_turns cut.at) cut.turns)))
+    cut.tells
 
 filed_begun : (managed : List Managed) (specs : List IfSpec) (old new : Seen) → BeginsOpening managed specs old new → LeavesFiled managed specs old new
 filed_begun managed specs old new begins =
-    files_since managed specs old new begins.begun begins.opens.calls (inl (record { begin = begins.begun.begin; front = begins.opens.front })) begins.opens.tells
+    files_since managed specs old new begins.begun begins.opens.calls
+    (inl (record { begin = begins.begun.begin; front = begins.opens.front })) begins.opens.tells
 
 -- it could not begin
 filed_unbegun : (managed : List Managed) (specs : List IfSpec) (old new : Seen) → FailsToBegin old new → LeavesFiled managed specs old new
@@ -162,24 +179,39 @@ filed_unbegun managed specs old new fails =
     record {
       calls = [];
       front = front;
-      answers = subst (λ (s : Device StoreTold StoreFails). Answered old.store.failing [] old.store.told s.told) (sym only.store) (answered_none old.store.failing old.store.told);
+      answers =
+          subst (λ (s : Device StoreTold StoreFails). Answered old.store.failing [] old.store.told s.told) (sym only.store)
+          (answered_none old.store.failing old.store.told);
       whole = whole_where_told managed specs old [] front old.store.told;
       counts = record {
         sends = subst (λ (n : ℕ). CountsFailed failed_send [] old.link.faults n) (sym only.sends) (counts_none failed_send old.link.faults);
-        host = subst (λ (h : Device HostTold (List ℕ)). CountsFailed failed_host_call [] old.host.faults h.faults) (sym only.host) (counts_none failed_host_call old.host.faults);
-        store = subst (λ (s : Device StoreTold StoreFails). CountsFailed failed_store_call [] old.store.faults s.faults) (sym only.store) (counts_none failed_store_call old.store.faults);
-        hooks = subst (λ (h : Device HooksTold (List ℕ)). CountsFailed failed_hook_call [] old.hooks.faults h.faults) (sym only.hooks) (counts_none failed_hook_call old.hooks.faults);
+        host =
+            subst (λ (h : Device HostTold (List ℕ)). CountsFailed failed_host_call [] old.host.faults h.faults) (sym only.host)
+            (counts_none failed_host_call old.host.faults);
+        store =
+            subst (λ (s : Device StoreTold StoreFails). CountsFailed failed_store_call [] old.store.faults s.faults) (sym only.store)
+            (counts_none failed_store_call old.store.faults);
+        hooks =
+            subst (λ (h : Device HooksTold (List ℕ)). CountsFailed failed_hook_call [] old.hooks.faults h.faults) (sym only.hooks)
+            (counts_none failed_hook_call old.hooks.faults);
       };
     }
 
-pub filed_left : (end : ServeEnd) (allowed : ℕ) (managed : List Managed) (specs : List IfSpec) (old new : Seen) (out_from out_to : Option (List ℕ)) (a b p q : ℕ)
+pub filed_left : (end : ServeEnd) (allowed : ℕ) (managed : List Managed) (specs : List IfSpec) (old new : Seen) (out_from out_to : Option (List ℕ))
+    (a b p q : ℕ)
     → HasLifeCause end a b p q → Leaves end allowed managed specs old new out_from out_to → LeavesFiled managed specs old new
 filed_left ends.End allowed managed specs old new out_from out_to a b p q cause left = absurd cause
-filed_left ends.TurnsOver allowed managed specs old new out_from out_to a b p q cause left = filed_life ends.TurnsOver allowed managed specs old new out_from out_to left
+filed_left ends.TurnsOver allowed managed specs old new out_from out_to a b p q cause left =
+    filed_life ends.TurnsOver allowed managed specs old new out_from out_to left
 filed_left ends.LinkFault allowed managed specs old new out_from out_to a b p q cause (inl left) = filed_unbegun managed specs old new left.1
-filed_left ends.LinkFault allowed managed specs old new out_from out_to a b p q cause (inr left) = filed_life ends.LinkFault allowed managed specs old new out_from out_to left
-filed_left ends.WriteFault allowed managed specs old new out_from out_to a b p q cause (inl left) = filed_opening ends.WriteFault managed specs old new out_from out_to left
-filed_left ends.WriteFault allowed managed specs old new out_from out_to a b p q cause (inr left) = filed_life ends.WriteFault allowed managed specs old new out_from out_to left
+filed_left ends.LinkFault allowed managed specs old new out_from out_to a b p q cause (inr left) =
+    filed_life ends.LinkFault allowed managed specs old new out_from out_to left
+filed_left ends.WriteFault allowed managed specs old new out_from out_to a b p q cause (inl left) =
+    filed_opening ends.WriteFault managed specs old new out_from out_to left
+filed_left ends.WriteFault allowed managed specs old new out_from out_to a b p q cause (inr left) =
+    filed_life ends.WriteFault allowed managed specs old new out_from out_to left
 filed_left ends.NoMemory allowed managed specs old new out_from out_to a b p q cause (inl left) = filed_begun managed specs old new left.1
-filed_left ends.NoMemory allowed managed specs old new out_from out_to a b p q cause (inr (inl left)) = filed_opening ends.NoMemory managed specs old new out_from out_to left
-filed_left ends.NoMemory allowed managed specs old new out_from out_to a b p q cause (inr (inr left)) = filed_life ends.NoMemory allowed managed specs old new out_from out_to left
+filed_left ends.NoMemory allowed managed specs old new out_from out_to a b p q cause (inr (inl left)) =
+    filed_opening ends.NoMemory managed specs old new out_from out_to left
+filed_left ends.NoMemory allowed managed specs old new out_from out_to a b p q cause (inr (inr left)) =
+    filed_life ends.NoMemory allowed managed specs old new out_from out_to left

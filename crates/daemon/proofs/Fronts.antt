@@ -13,7 +13,8 @@ use Rattle.daemon.proofs.Stretches.{life_after-append}
 use Rattle.daemon.proofs.CutOffs.{front_after}
 
 -- a front of lines is one of all that holds them
-pub front_wider : (old new : Option (List ℕ)) (whole lines more : List Line) → WritesFront old new whole lines → WritesFront old new [] (whole ++ (lines ++ more))
+pub front_wider : (old new : Option (List ℕ)) (whole lines more : List Line) → WritesFront old new whole lines
+    → WritesFront old new [] (whole ++ (lines ++ more))
 front_wider None new whole lines more p = p
 front_wider (Some w) new whole lines more p =
     let some : List ℕ = take p.0 (lines_text lines) in
@@ -32,14 +33,16 @@ front_wider (Some w) new whole lines more p =
     )
 
 -- lines were written, and then a front of others
-pub front_then : (old mid new : Option (List ℕ)) (before lines : List Line) → WritesLines old mid before → WritesFront mid new [] lines → WritesFront old new [] (before ++ lines)
+pub front_then : (old mid new : Option (List ℕ)) (before lines : List Line) → WritesLines old mid before → WritesFront mid new [] lines
+    → WritesFront old new [] (before ++ lines)
 front_then old mid new before lines p q =
     subst (λ (ls : List Line). WritesFront old new [] (before ++ ls)) (append-nil lines)
     (front_wider old new before lines []
     (subst (λ (ls : List Line). WritesFront old new ls lines) (append-nil before) (front_after old mid new before [] lines p q)))
 
 -- what follows the lines written whole, where all that was foretold comes
-lines_left : (life : Life) (at : CutAt) → (more : List Line) × (flat_map turn_lines (turns_left at) ++ closing_lines (life_after life (turns_left at)) ≡ cut_lines life at ++ more)
+lines_left : (life : Life) (at : CutAt)
+    → (more : List Line) × (flat_map turn_lines (turns_left at) ++ closing_lines (life_after life (turns_left at)) ≡ cut_lines life at ++ more)
 lines_left life (Between rest) = (flat_map turn_lines rest ++ closing_lines (life_after life rest), refl)
 lines_left life (InTurn met rest) = (
   flat_map turn_lines rest ++ closing_lines (life_after met.life rest),
@@ -56,9 +59,12 @@ front_of_life opening mets at old new front =
     let left = lines_left life at in
     let rest : List Line = flat_map turn_lines (turns_left at) ++ closing_lines (life_after life (turns_left at)) in
     let is : life_lines opening (mets ++ turns_left at) ≡ (opening_lines opening ++ flat_map turn_lines mets) ++ (cut_lines life at ++ left.0) =
-    ap (λ (ls : List Line). opening_lines opening ++ (ls ++ closing_lines (life_after opening.life (mets ++ turns_left at)))) (flat_map-append turn_lines mets (turns_left at))
-    ∙ ap (λ (l : Life). opening_lines opening ++ ((flat_map turn_lines mets ++ flat_map turn_lines (turns_left at)) ++ closing_lines l)) (life_after-append opening.life mets (turns_left at))
-    ∙ ap (λ (ls : List Line). opening_lines opening ++ ls) (append_assoc (flat_map turn_lines mets) (flat_map turn_lines (turns_left at)) (closing_lines (life_after life (turns_left at))))
+    ap (λ (ls : List Line). opening_lines opening ++ (ls ++ closing_lines (life_after opening.life (mets ++ turns_left at))))
+    (flat_map-append turn_lines mets (turns_left at))
+    ∙ ap (λ (l : Life). opening_lines opening ++ ((flat_map turn_lines mets ++ flat_map turn_lines (turns_left at)) ++ closing_lines l))
+    (life_after-append opening.life mets (turns_left at))
+    ∙ ap (λ (ls : List Line). opening_lines opening ++ ls)
+    (append_assoc (flat_map turn_lines mets) (flat_map turn_lines (turns_left at)) (closing_lines (life_after life (turns_left at))))
     ∙ sym (append_assoc (opening_lines opening) (flat_map turn_lines mets) rest)
     ∙ ap (λ (ls : List Line). (opening_lines opening ++ flat_map turn_lines mets) ++ ls) left.1 in
     subst (λ (ls : List Line). WritesFront old new [] ls) (sym is)

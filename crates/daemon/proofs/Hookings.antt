@@ -45,17 +45,23 @@ one_runs hooks number is = go hooks.child is
 module _ (hooks : Supervision) (number at : ℕ) (answer : Option said.Poll) (old mid new : Seen) (t u v : List ℕ)
     (runs : Some number ≡ option_map (λ (child : Child). child.number) hooks.child)
     (polls : Does (Then (asks.Poll number) Done) answer old mid t u) where
-  polls_then : Does (letting_go number (poll_order (heard answer) at hooks.child) (after_poll (heard answer) at hooks)) (after_poll (heard answer) at hooks) mid new u v
+  polls_then : Does (letting_go number (poll_order (heard answer) at hooks.child) (after_poll (heard answer) at hooks))
+      (after_poll (heard answer) at hooks) mid new u v
       → Does (polling at hooks) (after_poll (heard answer) at hooks) old new t v
   polls_then later = go hooks.child refl runs
     where
-      go : (child : Option Child) → hooks.child ≡ child → Some number ≡ option_map (λ (c : Child). c.number) child → Does (polling at hooks) (after_poll (heard answer) at hooks) old new t v
+      go : (child : Option Child) → hooks.child ≡ child → Some number ≡ option_map (λ (c : Child). c.number) child
+          → Does (polling at hooks) (after_poll (heard answer) at hooks) old new t v
       go None is n = absurd cc
       go (Some child) is n =
           let same : number ≡ child.number = some_same n in
           subst (λ (c : Option Child). Does (polling_child at hooks c) (after_poll (heard answer) at hooks) old new t v) (sym is)
-          (subst (λ (k : ℕ). Does (Then (asks.Poll k) (λ a. letting_go k (poll_order (heard a) at hooks.child) (after_poll (heard a) at hooks))) (after_poll (heard answer) at hooks) old new t v) same
-          (does_then (asks.Poll number) (λ a. letting_go number (poll_order (heard a) at hooks.child) (after_poll (heard a) at hooks)) answer (after_poll (heard answer) at hooks) old mid new t u v polls later))
+          (subst
+          (λ (k : ℕ). Does (Then (asks.Poll k) (λ a. letting_go k (poll_order (heard a) at hooks.child) (after_poll (heard a) at hooks)))
+          (after_poll (heard answer) at hooks) old new t v)
+          same
+          (does_then (asks.Poll number) (λ a. letting_go number (poll_order (heard a) at hooks.child) (after_poll (heard a) at hooks)) answer
+          (after_poll (heard answer) at hooks) old mid new t u v polls later))
 
 pub polled_gone : (hooks next : Supervision) (number at : ℕ) (answer : Option said.Poll) (order : Order) (x : Unit {0}) (old mid new : Seen) (t u v : List ℕ)
     → Some number ≡ option_map (λ (child : Child). child.number) hooks.child → Does (Then (asks.Poll number) Done) answer old mid t u
@@ -89,7 +95,8 @@ over_idle true order is rests = absurd (let bad : true ≡ false = sym (ap is_ab
 over_idle false order is rests = is
 
 -- a poll starts nothing
-pub idles_so : (answer : said.Poll) (at : ℕ) (child : Option Child) (order : Order) → order ≡ poll_order answer at child → is_abandon order ≡ false → order ≡ Idle
+pub idles_so : (answer : said.Poll) (at : ℕ) (child : Option Child) (order : Order) → order ≡ poll_order answer at child → is_abandon order ≡ false
+    → order ≡ Idle
 idles_so (poll.Ended status) at child order is rests = is
 idles_so poll.Running at child order is rests = over_idle (is_over_time at child) order is rests
 
@@ -99,7 +106,8 @@ abandoned_ran None at child is = refl
 abandoned_ran (Some poll.Running) at child is = refl
 abandoned_ran (Some (poll.Ended status)) at child is = absurd cc
 
-pub gone_ran : (answer : Option said.Poll) (at : ℕ) (child : Option Child) (order : Order) → order ≡ poll_order (heard answer) at child → order ≡ Abandon → runs_on answer ≡ true
+pub gone_ran : (answer : Option said.Poll) (at : ℕ) (child : Option Child) (order : Order) → order ≡ poll_order (heard answer) at child → order ≡ Abandon
+    → runs_on answer ≡ true
 gone_ran answer at child order is abandons = abandoned_ran answer at child (sym is ∙ abandons)
 
 over_gone : (over : Bool) (child : Option Child) → cond over Abandon Idle ≡ Abandon → is_some (cond over None child) ≡ false
@@ -110,7 +118,8 @@ gone_known : (answer : said.Poll) (at : ℕ) (child : Option Child) → poll_ord
 gone_known (poll.Ended status) at child is = absurd cc
 gone_known poll.Running at child is = over_gone (is_over_time at child) child is
 
-pub known_gone : (hooks next : Supervision) (at : ℕ) (answer : Option said.Poll) (order : Order) → order ≡ poll_order (heard answer) at hooks.child → order ≡ Abandon
+pub known_gone : (hooks next : Supervision) (at : ℕ) (answer : Option said.Poll) (order : Order) → order ≡ poll_order (heard answer) at hooks.child
+    → order ≡ Abandon
     → next ≡ after_poll (heard answer) at hooks → is_some next.child ≡ false
 known_gone hooks next at answer order is abandons next_is =
     ap (λ (s : Supervision). is_some s.child) next_is ∙ gone_known (heard answer) at hooks.child (sym is ∙ abandons)
@@ -125,7 +134,8 @@ on_known None at child runs is = over_on (is_over_time at child) child is runs
 on_known (Some poll.Running) at child runs is = over_on (is_over_time at child) child is runs
 on_known (Some (poll.Ended status)) at child runs is = refl
 
-pub known_on : (hooks next : Supervision) (number at : ℕ) (answer : Option said.Poll) (order : Order) → Some number ≡ option_map (λ (child : Child). child.number) hooks.child
+pub known_on : (hooks next : Supervision) (number at : ℕ) (answer : Option said.Poll) (order : Order)
+    → Some number ≡ option_map (λ (child : Child). child.number) hooks.child
     → order ≡ poll_order (heard answer) at hooks.child → order ≡ Idle → next ≡ after_poll (heard answer) at hooks → is_some next.child ≡ runs_on answer
 known_on hooks next number at answer order runs is idles next_is =
     ap (λ (s : Supervision). is_some s.child) next_is ∙ on_known answer at hooks.child (one_runs hooks number runs) (sym is ∙ idles)
@@ -143,7 +153,8 @@ taken_room : (s : Supervision) (number : ℕ) (full : Bool) → is_full s ≡ fu
 taken_room s number true is e = absurd cc
 taken_room s number false is e = refl
 
-pub puts_taken : (job : Job) (s next : Supervision) (number : ℕ) (answer : Result ℕ Dropped) (text : List ℕ) → answer ≡ put_answer s → answer ≡ Ok number → next ≡ after_put job s
+pub puts_taken : (job : Job) (s next : Supervision) (number : ℕ) (answer : Result ℕ Dropped) (text : List ℕ) → answer ≡ put_answer s → answer ≡ Ok number
+    → next ≡ after_put job s
     → Puts (putting_one job s) next text text
 puts_taken job s next number answer text answer_is ok next_is seen =
     let room : is_full s ≡ false = taken_room s number (is_full s) refl (sym answer_is ∙ ok) in
@@ -162,7 +173,8 @@ was_dropped s dropped true is e = record { full = is; number_is = ap number_in (
     number_in (Err d) = d.number
 was_dropped s dropped false is e = absurd cc
 
-pub puts_dropped : (job : Job) (s next : Supervision) (dropped : Dropped) (answer : Result ℕ Dropped) (name : List ℕ) (t u : List ℕ) → answer ≡ put_answer s → answer ≡ Err dropped → next ≡ after_put job s
+pub puts_dropped : (job : Job) (s next : Supervision) (dropped : Dropped) (answer : Result ℕ Dropped) (name : List ℕ) (t u : List ℕ) → answer ≡ put_answer s
+    → answer ≡ Err dropped → next ≡ after_put job s
     → name ≡ interface_of job → Prints t u (lines.HookDropped dropped.number job.reason name ∷ []) → Puts (putting_one job s) next t u
 puts_dropped job s next dropped answer name t u answer_is err next_is name_is prints seen =
     let is : IsDropped s dropped.number = was_dropped s dropped (is_full s) refl (sym answer_is ∙ err) in
@@ -183,14 +195,16 @@ module _ {X : Type 0} (content : X → Job) where
       subst (λ (js : List X). Does (putting (map content js) s) next seen seen t v) (sym is)
       (does_after (putting_one (content job) s) (putting (map content later)) mid next seen seen seen t u v (one seen) rest)
 
-  pub putting_none : (jobs : List X) (left : ℕ) (s : Supervision) (seen : Seen) (text : List ℕ) → left ≡ length jobs → left ≡ 0 → Does (putting (map content jobs) s) s seen seen text text
+  pub putting_none : (jobs : List X) (left : ℕ) (s : Supervision) (seen : Seen) (text : List ℕ) → left ≡ length jobs → left ≡ 0
+      → Does (putting (map content jobs) s) s seen seen text text
   putting_none [] left s seen text counted none = does_done s seen text
   putting_none (job ∷ jobs) left s seen text counted none = let some : left ≡ length (job ∷ jobs) = counted in absurd (omega (arith, some, none))
 
 -- ---- the lines of a job's variables
 
 module _ {X : Type 0} (content : X → Variable) where
-  pub variables_more : (vars : List X) (i : ℕ) (d : X) (t u v : List ℕ) → i < length vars → Prints t u (map variable_line (map content (take i vars))) → Prints u v (variable_line (content (get_or vars i d)) ∷ [])
+  pub variables_more : (vars : List X) (i : ℕ) (d : X) (t u v : List ℕ) → i < length vars → Prints t u (map variable_line (map content (take i vars)))
+      → Prints u v (variable_line (content (get_or vars i d)) ∷ [])
       → Prints t v (map variable_line (map content (take (i + 1) vars)))
   variables_more vars i d t u v lt p q =
       prints_same (prints_then p q)
@@ -200,7 +214,8 @@ module _ {X : Type 0} (content : X → Variable) where
 
 -- ---- the first in line is started
 
-pub starts_one : (hooks line next : Supervision) (at : ℕ) (job : Job) (order : Order) (done : Bool) (old new : Seen) (t u : List ℕ) → order ≡ next_order hooks → order ≡ Start job → line ≡ after_next at hooks
+pub starts_one : (hooks line next : Supervision) (at : ℕ) (job : Job) (order : Order) (done : Bool) (old new : Seen) (t u : List ℕ) → order ≡ next_order hooks
+    → order ≡ Start job → line ≡ after_next at hooks
     → next ≡ started done line → Does (Then (asks.Start job) Done) done old new t u → Does (starting (next_order hooks) (after_next at hooks)) next old new t u
 starts_one hooks line next at job order done old new t u order_is starts line_is next_is did =
     subst (λ (o : Order). Does (starting o (after_next at hooks)) next old new t u) (sym starts ∙ order_is)
@@ -208,7 +223,8 @@ starts_one hooks line next at job order done old new t u order_is starts line_is
     (subst (λ (s : Supervision). Does (starting (Start job) line) s old new t u) (sym next_is)
     (does_then (asks.Start job) (λ d. Done (started d line)) done (started done line) old new new t u u did (does_done (started done line) new u))))
 
-pub starts_no_more : (hooks next : Supervision) (at : ℕ) (order : Order) (seen : Seen) (text : List ℕ) → order ≡ next_order hooks → order ≡ Idle → next ≡ after_next at hooks
+pub starts_no_more : (hooks next : Supervision) (at : ℕ) (order : Order) (seen : Seen) (text : List ℕ) → order ≡ next_order hooks → order ≡ Idle
+    → next ≡ after_next at hooks
     → Does (starting (next_order hooks) (after_next at hooks)) next seen seen text text
 starts_no_more hooks next at order seen text order_is idles next_is =
     subst (λ (o : Order). Does (starting o (after_next at hooks)) next seen seen text text) (sym idles ∙ order_is)
@@ -239,30 +255,36 @@ runs_then at None [] job is = absurd cc
 runs_then at None (first ∷ waiting) job is = refl
 
 -- and its child runs then
-pub runs_now : (hooks line : Supervision) (at : ℕ) (job : Job) (order : Order) → order ≡ next_order hooks → order ≡ Start job → line ≡ after_next at hooks → IsSome line.child
-runs_now hooks line at job order is starts line_is = subst (λ (s : Supervision). IsSome s.child) (sym line_is) (runs_then at hooks.child hooks.waiting job (sym is ∙ starts))
+pub runs_now : (hooks line : Supervision) (at : ℕ) (job : Job) (order : Order) → order ≡ next_order hooks → order ≡ Start job → line ≡ after_next at hooks
+    → IsSome line.child
+runs_now hooks line at job order is starts line_is =
+    subst (λ (s : Supervision). IsSome s.child) (sym line_is) (runs_then at hooks.child hooks.waiting job (sym is ∙ starts))
 
 same_child : (at : ℕ) (child : Option Child) (waiting : List Job) → first_order child waiting ≡ Idle → is_some (child_from at child waiting) ≡ is_some child
 same_child at (Some child) waiting is = refl
 same_child at None [] is = refl
 same_child at None (job ∷ waiting) is = absurd cc
 
-pub child_stays : (hooks next : Supervision) (at : ℕ) (order : Order) → order ≡ next_order hooks → order ≡ Idle → next ≡ after_next at hooks → is_some next.child ≡ is_some hooks.child
+pub child_stays : (hooks next : Supervision) (at : ℕ) (order : Order) → order ≡ next_order hooks → order ≡ Idle → next ≡ after_next at hooks
+    → is_some next.child ≡ is_some hooks.child
 child_stays hooks next at order is idles next_is =
     ap (λ (s : Supervision). is_some s.child) next_is ∙ same_child at hooks.child hooks.waiting (sym is ∙ idles)
 
 -- ---- when hooks want a turn
 
-pub due_running : (child : Option Child) (waiting : List Job) (now number : ℕ) → Some number ≡ option_map (λ (c : Child). c.number) child → Some (now + 1000) ≡ child_due child waiting now
+pub due_running : (child : Option Child) (waiting : List Job) (now number : ℕ) → Some number ≡ option_map (λ (c : Child). c.number) child
+    → Some (now + 1000) ≡ child_due child waiting now
 due_running None waiting now number is = absurd cc
 due_running (Some child) waiting now number is = refl
 
-pub due_waiting : (child : Option Child) (waiting : List Job) (now : ℕ) → None ≡ option_map (λ (c : Child). c.number) child → 0 < length waiting → Some now ≡ child_due child waiting now
+pub due_waiting : (child : Option Child) (waiting : List Job) (now : ℕ) → None ≡ option_map (λ (c : Child). c.number) child → 0 < length waiting
+    → Some now ≡ child_due child waiting now
 due_waiting (Some child) waiting now is some = absurd cc
 due_waiting None [] now is some = absurd (omega (arith, some))
 due_waiting None (job ∷ waiting) now is some = refl
 
-pub due_never : (child : Option Child) (waiting : List Job) (now : ℕ) → None ≡ option_map (λ (c : Child). c.number) child → length waiting ≤ 0 → None ≡ child_due child waiting now
+pub due_never : (child : Option Child) (waiting : List Job) (now : ℕ) → None ≡ option_map (λ (c : Child). c.number) child → length waiting ≤ 0
+    → None ≡ child_due child waiting now
 due_never (Some child) waiting now is none = absurd cc
 due_never None [] now is none = refl
 due_never None (job ∷ waiting) now is none = absurd (omega (arith, none))
@@ -270,7 +292,8 @@ due_never None (job ∷ waiting) now is none = absurd (omega (arith, none))
 -- ---- the interface of a job
 
 module _ {X : Type 0} (content : X → Variable) (test : Variable → Bool) where
-  found_first : (b : Bool) (x : X) (later : Option Variable) (rest : Option X) → later ≡ option_map content rest → cond b (Some (content x)) later ≡ option_map content (cond b (Some x) rest)
+  found_first : (b : Bool) (x : X) (later : Option Variable) (rest : Option X) → later ≡ option_map content rest
+      → cond b (Some (content x)) later ≡ option_map content (cond b (Some x) rest)
   found_first true x later rest same = refl
   found_first false x later rest same = same
 
@@ -279,5 +302,7 @@ module _ {X : Type 0} (content : X → Variable) (test : Variable → Bool) wher
   find_content (x ∷ xs) = found_first (test (content x)) x (find test (map content xs)) (find (λ (y : X). test (content y)) xs) (find_content xs)
 
   pub value_found : (xs : List X) (found : Option X) → found ≡ find (λ (x : X). test (content x)) xs
-      → unwrap_or (option_map (λ (v : Variable). v.value) (option_map content found)) [] ≡ unwrap_or (option_map (λ (v : Variable). v.value) (find test (map content xs))) []
-  value_found xs found is = ap (λ (o : Option Variable). unwrap_or (option_map (λ (v : Variable). v.value) o) []) (ap (option_map content) is ∙ sym (find_content xs))
+      → unwrap_or (option_map (λ (v : Variable). v.value) (option_map content found)) []
+      ≡ unwrap_or (option_map (λ (v : Variable). v.value) (find test (map content xs))) []
+  value_found xs found is =
+      ap (λ (o : Option Variable). unwrap_or (option_map (λ (v : Variable). v.value) o) []) (ap (option_map content) is ∙ sym (find_content xs))

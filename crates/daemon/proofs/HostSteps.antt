@@ -50,20 +50,24 @@ mine_are managed rows mine is in_order = is ∙ sym (in_order_stays (filter (is_
 
 -- ---- one change after another
 
-after_last : (front : List HostChange) (last : HostChange) (rows : List HostRow) → after_changes (front ++ last ∷ []) rows ≡ applied last (after_changes front rows)
+after_last : (front : List HostChange) (last : HostChange) (rows : List HostRow)
+    → after_changes (front ++ last ∷ []) rows ≡ applied last (after_changes front rows)
 after_last [] last rows = refl
 after_last (change ∷ front) last rows = after_last front last (applied change rows)
 
 pub after_more : (changes : List HostChange) (i : ℕ) (d : HostChange) (rows : List HostRow) → i < length changes
     → after_changes (take (i + 1) changes) rows ≡ applied (get_or changes i d) (after_changes (take i changes) rows)
-after_more changes i d rows lt = ap (λ (cs : List HostChange). after_changes cs rows) (take_more changes i d lt) ∙ after_last (take i changes) (get_or changes i d) rows
+after_more changes i d rows lt =
+    ap (λ (cs : List HostChange). after_changes cs rows) (take_more changes i d lt) ∙ after_last (take i changes) (get_or changes i d) rows
 
 pub known_more : (changes : List HostChange) (i : ℕ) (d : HostChange) (done : Bool) (table next : Table) (rows : List HostRow) → i < length changes
     → ((change : HostChange) (rows : List HostRow) → known_in next (applied change rows) ≡ known_with done change (known_in table rows))
     → known_in next (after_changes (take (i + 1) changes) rows) ≡ known_with done (get_or changes i d) (known_in table (after_changes (take i changes) rows))
-known_more changes i d done table next rows lt is = ap (known_in next) (after_more changes i d rows lt) ∙ is (get_or changes i d) (after_changes (take i changes) rows)
+known_more changes i d done table next rows lt is =
+    ap (known_in next) (after_more changes i d rows lt) ∙ is (get_or changes i d) (after_changes (take i changes) rows)
 
-pub known_then : (changes : List HostChange) (i : ℕ) (table : Table) (rows : List HostRow) → length changes ≤ i → known_in table (after_changes (take i changes) rows) ≡ known_in table (after_changes changes rows)
+pub known_then : (changes : List HostChange) (i : ℕ) (table : Table) (rows : List HostRow) → length changes ≤ i
+    → known_in table (after_changes (take i changes) rows) ≡ known_in table (after_changes changes rows)
 known_then changes i table rows le = ap (λ (cs : List HostChange). known_in table (after_changes cs rows)) (take_all i changes le)
 
 -- ---- the changes of a diff
@@ -74,28 +78,34 @@ changes_led diff known wanted leads = λ i. map Remove (reverse (leads.gone i)) 
 pub updated : (diff : Diff) (made : List HostChange) (table : Table) (old new : Seen) (t u : List ℕ) → made ≡ changes_by diff
     → ((known : List HostRow) → Does (changing made (Some known)) (known_in table (after_changes made known)) old new t u) → Updates diff table old new t u
 updated diff made table old new t u made_is does known wanted in_order wanted_in_order leads =
-    subst (λ (rows : List HostRow). Does (changing (changes known wanted) (Some known)) (known_in table rows) old new t u) (changes_reach known wanted in_order wanted_in_order)
-    (subst (λ (cs : List HostChange). Does (changing cs (Some known)) (known_in table (after_changes cs known)) old new t u) (made_is ∙ changes_led diff known wanted leads) (does known))
+    subst (λ (rows : List HostRow). Does (changing (changes known wanted) (Some known)) (known_in table rows) old new t u)
+    (changes_reach known wanted in_order wanted_in_order)
+    (subst (λ (cs : List HostChange). Does (changing cs (Some known)) (known_in table (after_changes cs known)) old new t u)
+    (made_is ∙ changes_led diff known wanted leads) (does known))
 
 pub led_fit : (diff : Diff) (known wanted : List HostRow) → Leads diff known wanted → AllByRecursion IsRow wanted → AllByRecursion IsRow diff.come.items
 led_fit diff known wanted leads fit = subst (AllByRecursion IsRow) (sym leads.come) (filter_fit _ wanted fit)
 
-known_fit : (diff : Diff) (wanted : List HostRow) (known : Option (List HostRow)) → WasKnown (pending.Changes diff) wanted known → AllByRecursion IsRow wanted → AllByRecursion IsRow diff.come.items
+known_fit : (diff : Diff) (wanted : List HostRow) (known : Option (List HostRow)) → WasKnown (pending.Changes diff) wanted known → AllByRecursion IsRow wanted
+    → AllByRecursion IsRow diff.come.items
 known_fit diff wanted None knew fit = absurd knew
 known_fit diff wanted (Some known) knew fit = led_fit diff known wanted knew.1 fit
 
-pub pending_fit : (due : Pending) (diff : Diff) (wanted : List HostRow) → due ≡ pending.Changes diff → (known : Option (List HostRow)) × WasKnown due wanted known
+pub pending_fit : (due : Pending) (diff : Diff) (wanted : List HostRow) → due ≡ pending.Changes diff
+    → (known : Option (List HostRow)) × WasKnown due wanted known
     → AllByRecursion IsRow wanted → AllByRecursion IsRow diff.come.items
 pending_fit due diff wanted is knew fit = known_fit diff wanted knew.0 (subst (λ (p : Pending). WasKnown p wanted knew.0) is knew.1) fit
 
 -- ---- a turn's host calls
 
-hosts_known : (managed : List Managed) (diff : Diff) (wanted : List HostRow) (table : Table) (old new : Seen) (t u : List ℕ) → InRowOrder wanted → Updates diff table old new t u
+hosts_known : (managed : List Managed) (diff : Diff) (wanted : List HostRow) (table : Table) (old new : Seen) (t u : List ℕ) → InRowOrder wanted
+    → Updates diff table old new t u
     → Hosts managed (pending.Changes diff) wanted table old new t u
 hosts_known managed diff wanted table old new t u in_order updates None knew = absurd knew
 hosts_known managed diff wanted table old new t u in_order updates (Some known) knew = updates known wanted knew.0 in_order knew.1
 
-pub hosts_changes : (managed : List Managed) (due : Pending) (diff : Diff) (wanted : List HostRow) (table : Table) (old new : Seen) (t u : List ℕ) → due ≡ pending.Changes diff → InRowOrder wanted
+pub hosts_changes : (managed : List Managed) (due : Pending) (diff : Diff) (wanted : List HostRow) (table : Table) (old new : Seen) (t u : List ℕ)
+    → due ≡ pending.Changes diff → InRowOrder wanted
     → Updates diff table old new t u → Hosts managed due wanted table old new t u
 hosts_changes managed due diff wanted table old new t u is in_order updates =
     subst (λ (p : Pending). Hosts managed p wanted table old new t u) (sym is) (hosts_known managed diff wanted table old new t u in_order updates)

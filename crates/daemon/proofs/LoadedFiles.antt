@@ -25,7 +25,8 @@ use Rattle.daemon.specs.Loading.{LoadsLeases, LoadsOwn, LoadsAll}
 pub reads_none : (is_kept : Bool) (name : List ℕ) (seen : Seen) (text : List ℕ) → is_kept ≡ false → Does (reading_if is_kept name) None seen seen text text
 reads_none is_kept name seen text none = subst (λ (b : Bool). Does (reading_if b name) None seen seen text text) (sym none) (does_done None seen text)
 
-pub reads_some : (is_kept : Bool) (name : List ℕ) (reading : Reading) (old new : Seen) (t u : List ℕ) → is_kept ≡ true → Does (Then (Read name) Done) reading old new t u
+pub reads_some : (is_kept : Bool) (name : List ℕ) (reading : Reading) (old new : Seen) (t u : List ℕ) → is_kept ≡ true
+    → Does (Then (Read name) Done) reading old new t u
     → Does (reading_if is_kept name) (Some reading) old new t u
 reads_some is_kept name reading old new t u some did =
     subst (λ (b : Bool). Does (reading_if b name) (Some reading) old new t u) (sym some)
@@ -53,19 +54,24 @@ loads_one managed runs4 runs6 name4 name6 lease4 lease6 old mid new t u v is4 is
 drop_one : (managed : List Managed) (i : ℕ) (d : Managed) → i < length managed → drop i managed ≡ get_or managed i d ∷ drop (i + 1) managed
 drop_one managed i d lt = rw add-one (drop-cons managed i d lt)
 
-pub loading_more : (managed : List Managed) (i : ℕ) (m : Managed) (first : Loaded) (rest : List Loaded) (old mid new : Seen) (t u v : List ℕ) → m ≡ get_or managed i m → i < length managed
-    → Does (loading_one m) first old mid t u → Does (loading (drop (i + 1) managed)) rest mid new u v → Does (loading (drop i managed)) (first ∷ rest) old new t v
+pub loading_more : (managed : List Managed) (i : ℕ) (m : Managed) (first : Loaded) (rest : List Loaded) (old mid new : Seen) (t u v : List ℕ)
+    → m ≡ get_or managed i m → i < length managed
+    → Does (loading_one m) first old mid t u → Does (loading (drop (i + 1) managed)) rest mid new u v
+    → Does (loading (drop i managed)) (first ∷ rest) old new t v
 loading_more managed i m first rest old mid new t u v is lt one more =
     subst (λ (ms : List Managed). Does (loading ms) (first ∷ rest) old new t v) (sym (drop_one managed i m lt))
-    (does_after (loading_one (get_or managed i m)) (λ first. after (loading (drop (i + 1) managed)) (λ rest. Done (first ∷ rest))) first (first ∷ rest) old mid new t u v
+    (does_after (loading_one (get_or managed i m)) (λ first. after (loading (drop (i + 1) managed)) (λ rest. Done (first ∷ rest))) first
+    (first ∷ rest) old mid new t u v
     (subst (λ (here : Managed). Does (loading_one here) first old mid t u) is one)
     (does_after (loading (drop (i + 1) managed)) (λ rest. Done (first ∷ rest)) rest (first ∷ rest) mid new new u v v more (does_done (first ∷ rest) new v)))
 
 pub loading_end : (managed : List Managed) (i : ℕ) (seen : Seen) (text : List ℕ) → length managed ≤ i → Does (loading (drop i managed)) [] seen seen text text
-loading_end managed i seen text le = subst (λ (ms : List Managed). Does (loading ms) [] seen seen text text) (sym (drop_all i managed le)) (does_done [] seen text)
+loading_end managed i seen text le =
+    subst (λ (ms : List Managed). Does (loading ms) [] seen seen text text) (sym (drop_all i managed le)) (does_done [] seen text)
 
 -- all were found
-pub loading_all : (managed : List Managed) (front : List Loaded) (old new : Seen) (t u : List ℕ) → Does (loading managed) (front ++ []) old new t u → Does (loading managed) front old new t u
+pub loading_all : (managed : List Managed) (front : List Loaded) (old new : Seen) (t u : List ℕ) → Does (loading managed) (front ++ []) old new t u
+    → Does (loading managed) front old new t u
 loading_all managed front old new t u did = subst (λ (all : List Loaded). Does (loading managed) all old new t u) (append-nil front) did
 
 -- what was found so far, and one more
@@ -94,7 +100,8 @@ all_with : {X : Type 0} (P : X → Type 0) (xs : List X) (x : X) → AllByRecurs
 all_with P [] x all holds = (holds, tt)
 all_with P (y ∷ xs) x all holds = (all.0, all_with P xs x all.1 holds)
 
-pub fit_more : {X : Type 0} (P : Beginning → Type 0) (content : X → Beginning) (all next : List X) (one : X) → next ≡ all ++ one ∷ [] → AllByRecursion P (map content all) → P (content one) → AllByRecursion P (map content next)
+pub fit_more : {X : Type 0} (P : Beginning → Type 0) (content : X → Beginning) (all next : List X) (one : X) → next ≡ all ++ one ∷ []
+    → AllByRecursion P (map content all) → P (content one) → AllByRecursion P (map content next)
 fit_more P content all next one next_is fit holds =
     subst (AllByRecursion P) (sym (ap (map content) next_is ∙ map-append content all (one ∷ []))) (all_with P (map content all) (content one) fit holds)
 
@@ -116,7 +123,8 @@ loads_nothing [] beginnings files seen text none no_beginnings no_files = record
 loads_nothing (m ∷ managed) beginnings files seen text none no_beginnings no_files = absurd cc
 
 -- the first of them is the host's, whose hardware address makes a DUID where none was read
-made_by_first : (managed : List Managed) (first : Managed) (read : Option Reading) → slice_get managed 0 ≡ Some first → host_duid (first ∷ []) read ≡ host_duid managed read
+made_by_first : (managed : List Managed) (first : Managed) (read : Option Reading) → slice_get managed 0 ≡ Some first
+    → host_duid (first ∷ []) read ≡ host_duid managed read
 made_by_first [] first read is = absurd cc
 made_by_first (m ∷ managed) first read is = ap (λ (one : Managed). host_duid (one ∷ []) read) (sym (some_same is))
 
@@ -141,7 +149,8 @@ loads_with managed first is_kept name duid read before beginnings files old mid 
 
 -- ---- all that a life keeps
 
-pub loads_all : (managed : List Managed) (beginnings : List Beginning) (files all : List KeptFile) (name : List ℕ) (reading : Reading) (old mid new : Seen) (t u v : List ℕ)
+pub loads_all : (managed : List Managed) (beginnings : List Beginning) (files all : List KeptFile) (name : List ℕ) (reading : Reading) (old mid new : Seen)
+    (t u v : List ℕ)
     → LoadsOwn managed beginnings files old mid t u → name ≡ resolver_file → Does (Then (Read name) Done) reading mid new u v
     → all ≡ files ++ file_with Resolver resolver_file (Some reading) → LoadsAll managed beginnings all old new t v
 loads_all managed beginnings files all name reading old mid new t u v own name_is reads all_is =

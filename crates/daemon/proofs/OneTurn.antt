@@ -42,30 +42,44 @@ module _ (managed : List Managed) (from to : Life) (wake : Wake) (bytes : List �
   first_in : (world : World) → Woke (until from) wake bytes world (world_of mid) → AreFirst managed from world (met_with wake bytes calls to ∷ []) to new
   unfolding ran_for
   first_in world w =
-      let is_run : IsRun (ran_for world wake bytes) calls to (world_of new) = subst (λ (m : Option World). IfSome m (λ at_mid. IsRun (run (turn_asks managed from wake bytes) at_mid) calls to (world_of new))) w.mid_is did.foretold in
-      let not_end : is_end w.given.wake.event ≡ false = sym (is_end-cut w.given.wake.event (length w.given.bytes) 2048) ∙ ap (λ (k : Wake). is_end k.event) (sym w.wake_is) ∙ more in
+      let is_run : IsRun (ran_for world wake bytes) calls to (world_of new) =
+      subst
+      (λ (m : Option World). IfSome m (λ at_mid. IsRun (run (turn_asks managed from wake bytes) at_mid) calls to (world_of new))) w.mid_is did.foretold
+      in
+      let not_end : is_end w.given.wake.event ≡ false =
+      sym (is_end-cut w.given.wake.event (length w.given.bytes) 2048) ∙ ap (λ (k : Wake). is_end k.event) (sym w.wake_is) ∙ more in
       let ran_is : ran_turn managed from world w.given ≡ ran_for world wake bytes = λ i. ran_for world (sym w.wake_is i) (sym w.bytes_are i) in
-      let met_is : met_with (told_wake w.given) (told_bytes w.given) (ran_for world wake bytes).calls (ran_for world wake bytes).result ≡ met_with wake bytes calls to =
+      let met_is : met_with (told_wake w.given) (told_bytes w.given) (ran_for world wake bytes).calls (ran_for world wake bytes).result
+      ≡ met_with wake bytes calls to =
       λ i. met_with (sym w.wake_is i) (sym w.bytes_are i) (sym is_run.calls_are i) (sym is_run.result_is i) in
-      let comes_on : (ran_for world wake bytes).world.link.told.coming ≡ w.coming = run_coming (turn_asks managed from wake bytes) _ ∙ ap (λ (c : List Given). drop 1 c) w.comes in
+      let comes_on : (ran_for world wake bytes).world.link.told.coming ≡ w.coming =
+      run_coming (turn_asks managed from wake bytes) _ ∙ ap (λ (c : List Given). drop 1 c) w.comes in
       record {
         then_told = (ran_for world wake bytes).world;
         tells = is_run.world_is;
         turns = ap (told_turns managed from world) w.comes
-            ∙ ap (λ (b : Bool). cond b [] (met_of w.given (ran_turn managed from world w.given) ∷ told_turns managed (ran_turn managed from world w.given).result (ran_turn managed from world w.given).world w.coming)) (or_false (is_over from) (is_end w.given.wake.event) going not_end)
+            ∙ ap
+            (λ (b : Bool). cond b []
+            (met_of w.given (ran_turn managed from world w.given)
+            ∷ told_turns managed (ran_turn managed from world w.given).result (ran_turn managed from world w.given).world w.coming))
+            (or_false (is_over from) (is_end w.given.wake.event) going not_end)
             ∙ ap (λ (r : Ran Life). met_of w.given r ∷ told_turns managed r.result r.world w.coming) ran_is
             ∙ ap (λ (m : Met). m ∷ told_turns managed (ran_for world wake bytes).result (ran_for world wake bytes).world w.coming) met_is
             ∙ ap (λ (life : Life). met_with wake bytes calls to ∷ told_turns managed life (ran_for world wake bytes).world w.coming) (sym is_run.result_is)
             ∙ ap (λ (c : List Given). met_with wake bytes calls to ∷ told_turns managed to (ran_for world wake bytes).world c) (sym comes_on);
         ends = ap (told_after managed from world) w.comes
-            ∙ ap (λ (b : Bool). cond b world (told_after managed (ran_turn managed from world w.given).result (ran_turn managed from world w.given).world w.coming)) (or_false (is_over from) (is_end w.given.wake.event) going not_end)
+            ∙ ap
+            (λ (b : Bool). cond b world
+            (told_after managed (ran_turn managed from world w.given).result (ran_turn managed from world w.given).world w.coming))
+            (or_false (is_over from) (is_end w.given.wake.event) going not_end)
             ∙ ap (λ (r : Ran Life). told_after managed r.result r.world w.coming) ran_is
             ∙ ap (λ (life : Life). told_after managed life (ran_for world wake bytes).world w.coming) (sym is_run.result_is)
             ∙ ap (λ (c : List Given). told_after managed to (ran_for world wake bytes).world c) (sym comes_on);
         counted = ap length w.comes ∙ omega (arith, ap length comes_on);
       }
 
-  first_at : (old : Option World) → IfSome old (λ world. Woke (until from) wake bytes world (world_of mid)) → IfSome old (λ world. AreFirst managed from world (met_with wake bytes calls to ∷ []) to new)
+  first_at : (old : Option World) → IfSome old (λ world. Woke (until from) wake bytes world (world_of mid))
+      → IfSome old (λ world. AreFirst managed from world (met_with wake bytes calls to ∷ []) to new)
   first_at None w = tt
   first_at (Some world) w = first_in world w
 
@@ -78,17 +92,21 @@ pub turn_first : (managed : List Managed) (from to : Life) (wake : Wake) (bytes 
 turn_first managed from to wake bytes buffer calls old mid new going more room front waits did =
     first_at managed from to wake bytes calls mid new going more did (world_of old) (woke_world (until from) wake bytes buffer more room front old mid waits)
 
-pub turn_tells : (from to : Life) (wake : Wake) (bytes buffer : List ℕ) (calls : List Call) (old mid new : Seen) → is_end wake.event ≡ false → length buffer ≡ 2048 → bytes ≡ take (frame_len wake.event) buffer
+pub turn_tells : (from to : Life) (wake : Wake) (bytes buffer : List ℕ) (calls : List Call) (old mid new : Seen) → is_end wake.event ≡ false
+    → length buffer ≡ 2048 → bytes ≡ take (frame_len wake.event) buffer
     → WaitsThere (until from) old mid buffer (woke wake) → Tells mid new calls → Tells old new (turn_calls from (met_with wake bytes calls to))
 turn_tells from to wake bytes buffer calls old mid new more room front waits tells =
-    tells_then old mid new (Link (Waited (until from) (Some (record { wake = wake; bytes = bytes }))) ∷ []) calls (wait_tells (until from) wake bytes buffer more room front old mid waits) tells
+    tells_then old mid new (Link (Waited (until from) (Some (record { wake = wake; bytes = bytes }))) ∷ []) calls
+    (wait_tells (until from) wake bytes buffer more room front old mid waits) tells
 
 -- the text of a turn was written
-written_once : (old new : Option (List ℕ)) (text : List ℕ) (lines : List Line) → WritesBytes old new text → Prints [] text lines → WritesLines old new (lines ++ [])
+written_once : (old new : Option (List ℕ)) (text : List ℕ) (lines : List Line) → WritesBytes old new text → Prints [] text lines
+    → WritesLines old new (lines ++ [])
 written_once None new text lines w p = w
 written_once (Some written) new text lines w p = w ∙ ap (λ (x : List ℕ). Some (written ++ x)) (p.appended ∙ ap lines_text (sym (append-nil lines)))
 
-pub one_goes : (managed : List Managed) (from to : Life) (wake : Wake) (bytes buffer text_old text written : List ℕ) (asked : Option ℕ) (old mid new : Seen) (out out_to : Option (List ℕ))
+pub one_goes : (managed : List Managed) (from to : Life) (wake : Wake) (bytes buffer text_old text written : List ℕ) (asked : Option ℕ) (old mid new : Seen)
+    (out out_to : Option (List ℕ))
     → (made : MakesTurn managed from wake bytes to mid new text_old text) → text_old ≡ [] → written ≡ text → WritesBytes out out_to written
     → is_over from ≡ false → is_end wake.event ≡ false → length buffer ≡ 2048 → bytes ≡ take (frame_len wake.event) buffer
     → WaitsThere asked old mid buffer (woke wake) → asked ≡ until from
@@ -98,7 +116,9 @@ one_goes managed from to wake bytes buffer text_old text written asked old mid n
     record {
       turns = (record { going = going; more = more; makes = made.did.makes }, tt);
       after = refl;
-      written = written_once out out_to text (turn_lines (met_with wake bytes made.calls to)) (subst (λ (t : List ℕ). WritesBytes out out_to t) same wrote) (subst (λ (t : List ℕ). Prints t text (turn_lines (met_with wake bytes made.calls to))) empty made.lines);
+      written =
+          written_once out out_to text (turn_lines (met_with wake bytes made.calls to)) (subst (λ (t : List ℕ). WritesBytes out out_to t) same wrote)
+          (subst (λ (t : List ℕ). Prints t text (turn_lines (met_with wake bytes made.calls to))) empty made.lines);
       tells = subst (λ (cs : List Call). Tells old new cs) (sym (append-nil (turn_calls from (met_with wake bytes made.calls to))))
           (turn_tells from to wake bytes buffer made.calls old mid new more room front waits_here made.did.tells);
       foretold = turn_first managed from to wake bytes buffer made.calls old mid new going more room front waits_here made.did;
@@ -106,47 +126,69 @@ one_goes managed from to wake bytes buffer text_old text written asked old mid n
 
 -- ---- the last wait
 
-last_in : (managed : List Managed) (life : Life) (wake : Wake) (buffer : List ℕ) (asked : Option ℕ) (told : LinkTold) (mid : Option LinkTold) (world : World) (coming : List Given) → is_end wake.event ≡ true → Comes asked told coming mid buffer wake
+last_in : (managed : List Managed) (life : Life) (wake : Wake) (buffer : List ℕ) (asked : Option ℕ) (told : LinkTold) (mid : Option LinkTold) (world : World)
+    (coming : List Given)
+    → is_end wake.event ≡ true → Comes asked told coming mid buffer wake
     → told_turns managed life world coming ≡ []
 last_in managed life wake buffer asked told mid world [] end comes = refl
 last_in managed life wake buffer asked told mid world (given ∷ coming) end comes =
-    let is : is_end given.wake.event ≡ true = sym (is_end-cut given.wake.event (length given.bytes) (length buffer)) ∙ ap (λ (w : Wake). is_end w.event) (sym comes.0) ∙ end in
-    ap (λ (b : Bool). cond b [] (met_of given (ran_turn managed life world given) ∷ told_turns managed (ran_turn managed life world given).result (ran_turn managed life world given).world coming))
+    let is : is_end given.wake.event ≡ true =
+    sym (is_end-cut given.wake.event (length given.bytes) (length buffer)) ∙ ap (λ (w : Wake). is_end w.event) (sym comes.0) ∙ end in
+    ap
+    (λ (b : Bool). cond b []
+    (met_of given (ran_turn managed life world given)
+    ∷ told_turns managed (ran_turn managed life world given).result (ran_turn managed life world given).world coming))
     (or_true (is_over life) (is_end given.wake.event) is)
 
-last_at : (managed : List Managed) (life : Life) (wake : Wake) (buffer : List ℕ) (asked : Option ℕ) (link mid : Option LinkTold) (failing : Option (List ℕ)) (host : Option (Told HostTold (List ℕ))) (store : Option (Told StoreTold StoreFails)) (hooks : Option (Told HooksTold (List ℕ))) → is_end wake.event ≡ true
+last_at : (managed : List Managed) (life : Life) (wake : Wake) (buffer : List ℕ) (asked : Option ℕ) (link mid : Option LinkTold) (failing : Option (List ℕ))
+    (host : Option (Told HostTold (List ℕ))) (store : Option (Told StoreTold StoreFails)) (hooks : Option (Told HooksTold (List ℕ)))
+    → is_end wake.event ≡ true
     → Waits asked link mid buffer (woke wake) → IfSome (world_from (told_from link failing) host store hooks) (λ world. foretold_turns managed life world ≡ [])
 last_at managed life wake buffer asked None mid failing host store hooks end waits = tt
 last_at managed life wake buffer asked (Some told) mid None host store hooks end waits = tt
 last_at managed life wake buffer asked (Some told) mid (Some failing) None store hooks end waits = tt
 last_at managed life wake buffer asked (Some told) mid (Some failing) (Some host) None hooks end waits = tt
 last_at managed life wake buffer asked (Some told) mid (Some failing) (Some host) (Some store) None end waits = tt
-last_at managed life wake buffer asked (Some told) mid (Some failing) (Some host) (Some store) (Some hooks) end waits = last_in managed life wake buffer asked told mid _ told.coming end waits
+last_at managed life wake buffer asked (Some told) mid (Some failing) (Some host) (Some store) (Some hooks) end waits =
+    last_in managed life wake buffer asked told mid _ told.coming end waits
 
 -- what is left then
-left_in-last : (managed : List Managed) (life : Life) (wake : Wake) (buffer : List ℕ) (asked : Option ℕ) (told : LinkTold) (mid : Option LinkTold) (failing : List ℕ) (host : Told HostTold (List ℕ)) (store : Told StoreTold StoreFails) (hooks : Told HooksTold (List ℕ)) (coming : List Given)
+left_in-last : (managed : List Managed) (life : Life) (wake : Wake) (buffer : List ℕ) (asked : Option ℕ) (told : LinkTold) (mid : Option LinkTold)
+    (failing : List ℕ) (host : Told HostTold (List ℕ)) (store : Told StoreTold StoreFails) (hooks : Told HooksTold (List ℕ)) (coming : List Given)
     → is_end wake.event ≡ true → Comes asked told coming mid buffer wake
-    → option_map left_in (world_from (told_from mid (Some failing)) (Some host) (Some store) (Some hooks)) ≡ Some (left_in (told_after managed life (record { link = record { told = told; failing = failing }; host = host; store = store; hooks = hooks }) coming))
+    → option_map left_in (world_from (told_from mid (Some failing)) (Some host) (Some store) (Some hooks))
+    ≡ Some
+    (left_in (told_after managed life (record { link = record { told = told; failing = failing }; host = host; store = store; hooks = hooks }) coming))
 left_in-last managed life wake buffer asked told mid failing host store hooks [] end comes =
     ap (λ (l : Option LinkTold). option_map left_in (world_from (told_from l (Some failing)) (Some host) (Some store) (Some hooks))) comes.1
 left_in-last managed life wake buffer asked told mid failing host store hooks (given ∷ coming) end comes =
-    let is : is_end given.wake.event ≡ true = sym (is_end-cut given.wake.event (length given.bytes) (length buffer)) ∙ ap (λ (w : Wake). is_end w.event) (sym comes.0) ∙ end in
+    let is : is_end given.wake.event ≡ true =
+    sym (is_end-cut given.wake.event (length given.bytes) (length buffer)) ∙ ap (λ (w : Wake). is_end w.event) (sym comes.0) ∙ end in
     let world : World = record { link = record { told = told; failing = failing }; host = host; store = store; hooks = hooks } in
     ap (λ (l : Option LinkTold). option_map left_in (world_from (told_from l (Some failing)) (Some host) (Some store) (Some hooks))) comes.2
-    ∙ sym (ap (λ (b : Bool). Some (left_in (cond b world (told_after managed (ran_turn managed life world given).result (ran_turn managed life world given).world coming)))) (or_true (is_over life) (is_end given.wake.event) is))
+    ∙ sym
+    (ap
+    (λ (b : Bool). Some
+    (left_in (cond b world (told_after managed (ran_turn managed life world given).result (ran_turn managed life world given).world coming))))
+    (or_true (is_over life) (is_end given.wake.event) is))
 
-left_at : (managed : List Managed) (life : Life) (wake : Wake) (buffer : List ℕ) (asked : Option ℕ) (link mid : Option LinkTold) (failing : Option (List ℕ)) (host : Option (Told HostTold (List ℕ))) (store : Option (Told StoreTold StoreFails)) (hooks : Option (Told HooksTold (List ℕ))) → is_end wake.event ≡ true
+left_at : (managed : List Managed) (life : Life) (wake : Wake) (buffer : List ℕ) (asked : Option ℕ) (link mid : Option LinkTold) (failing : Option (List ℕ))
+    (host : Option (Told HostTold (List ℕ))) (store : Option (Told StoreTold StoreFails)) (hooks : Option (Told HooksTold (List ℕ)))
+    → is_end wake.event ≡ true
     → Waits asked link mid buffer (woke wake)
-    → IfSome (world_from (told_from link failing) host store hooks) (λ world. option_map left_in (world_from (told_from mid failing) host store hooks) ≡ Some (left_in (told_last managed life world)))
+    → IfSome (world_from (told_from link failing) host store hooks)
+    (λ world. option_map left_in (world_from (told_from mid failing) host store hooks) ≡ Some (left_in (told_last managed life world)))
 left_at managed life wake buffer asked None mid failing host store hooks end waits = tt
 left_at managed life wake buffer asked (Some told) mid None host store hooks end waits = tt
 left_at managed life wake buffer asked (Some told) mid (Some failing) None store hooks end waits = tt
 left_at managed life wake buffer asked (Some told) mid (Some failing) (Some host) None hooks end waits = tt
 left_at managed life wake buffer asked (Some told) mid (Some failing) (Some host) (Some store) None end waits = tt
-left_at managed life wake buffer asked (Some told) mid (Some failing) (Some host) (Some store) (Some hooks) end waits = left_in-last managed life wake buffer asked told mid failing host store hooks told.coming end waits
+left_at managed life wake buffer asked (Some told) mid (Some failing) (Some host) (Some store) (Some hooks) end waits =
+    left_in-last managed life wake buffer asked told mid failing host store hooks told.coming end waits
 
 pub wait_ends : (managed : List Managed) (life : Life) (wake : Wake) (buffer : List ℕ) (asked : Option ℕ) (old mid : Seen) (out : Option (List ℕ))
-    → is_over life ≡ false → asked ≡ until life → is_end wake.event ≡ true → WaitsThere asked old mid buffer (woke wake) → Ends 1 managed life old out life mid out
+    → is_over life ≡ false → asked ≡ until life → is_end wake.event ≡ true → WaitsThere asked old mid buffer (woke wake)
+    → Ends 1 managed life old out life mid out
 wait_ends managed life wake buffer asked old mid out going asked_is end waits =
     let it : Gave asked wake old.link.told mid.link.told = gave asked wake buffer old.link.told mid.link.told waits.told in
     record {
@@ -158,7 +200,12 @@ wait_ends managed life wake buffer asked old mid out going asked_is end waits =
       last = Link (Waited asked (Some it.given)) ∷ [];
       last_is = (going, asked_is, ap (λ (k : Wake). is_end k.event) it.its_wake ∙ end);
       tells = link_alone old mid asked (Some it.given) waits.only waits.begins it.adds;
-      whole = last_at managed life wake buffer asked old.link.told mid.link.told old.link.failing (told_of old.host) (told_of old.store) (told_of old.hooks) end waits.told;
-      left = subst (λ (m : Option World). IfSome (world_of old) (λ world. option_map left_in m ≡ Some (left_in (told_last managed life world)))) (same_but_link old mid waits.only)
-          (left_at managed life wake buffer asked old.link.told mid.link.told old.link.failing (told_of old.host) (told_of old.store) (told_of old.hooks) end waits.told);
+      whole =
+          last_at managed life wake buffer asked old.link.told mid.link.told old.link.failing (told_of old.host) (told_of old.store)
+          (told_of old.hooks) end waits.told;
+      left =
+          subst (λ (m : Option World). IfSome (world_of old) (λ world. option_map left_in m ≡ Some (left_in (told_last managed life world))))
+          (same_but_link old mid waits.only)
+          (left_at managed life wake buffer asked old.link.told mid.link.told old.link.failing (told_of old.host) (told_of old.store)
+          (told_of old.hooks) end waits.told);
     }

@@ -18,7 +18,8 @@ drop_one : (names : List (String Global)) (i : ℕ) (d : String Global) → i < 
 drop_one names i d lt = rw add-one (drop-cons names i d lt)
 
 -- the rest is removed after one more
-pub removing_more : (names : List (String Global)) (i : ℕ) (d name : String Global) (done : Bool) (x : Unit {0}) (old mid new : Seen) (t u v : List ℕ) → name ≡ get_or names i d → i < length names
+pub removing_more : (names : List (String Global)) (i : ℕ) (d name : String Global) (done : Bool) (x : Unit {0}) (old mid new : Seen) (t u v : List ℕ)
+    → name ≡ get_or names i d → i < length names
     → Does (Then (RemoveFile (string_bytes name)) Done) done old mid t u
     → Does (removing (map string_bytes (drop (i + 1) names))) x mid new u v → Does (removing (map string_bytes (drop i names))) x old new t v
 removing_more names i d name done x old mid new t u v is lt one rest =
@@ -34,22 +35,28 @@ removing_end names i done x old new t u le one =
     (does_then Settle (λ done. Done tt) done tt old new new t u u one (does_done tt new u))
 
 -- there was none
-pub removed_none : (names : List (String Global)) (x : Unit {0}) (seen : Seen) (text : List ℕ) → names ≡ [] → Does (clearing_listed (Some (map string_bytes names))) x seen seen text text
-removed_none names x seen text none = subst (λ (ns : List (String Global)). Does (clearing_listed (Some (map string_bytes ns))) x seen seen text text) (sym none) (does_done tt seen text)
+pub removed_none : (names : List (String Global)) (x : Unit {0}) (seen : Seen) (text : List ℕ) → names ≡ []
+    → Does (clearing_listed (Some (map string_bytes names))) x seen seen text text
+removed_none names x seen text none =
+    subst (λ (ns : List (String Global)). Does (clearing_listed (Some (map string_bytes ns))) x seen seen text text) (sym none) (does_done tt seen text)
 
 -- there was one
-pub removed_some : (names : List (String Global)) (x : Unit {0}) (old new : Seen) (t u : List ℕ) → (names ≡ [] → ⊥) → Does (removing (map string_bytes names)) x old new t u → Does (clearing_listed (Some (map string_bytes names))) x old new t u
+pub removed_some : (names : List (String Global)) (x : Unit {0}) (old new : Seen) (t u : List ℕ) → (names ≡ [] → ⊥)
+    → Does (removing (map string_bytes names)) x old new t u → Does (clearing_listed (Some (map string_bytes names))) x old new t u
 removed_some [] x old new t u some did = absurd (some refl)
 removed_some (name ∷ names) x old new t u some did = did
 
-pub cleared_unlisted : (names : Option (List (List ℕ))) (x : Unit {0}) (old new : Seen) (t u : List ℕ) → names ≡ None → Does (Then ListAsides Done) names old new t u → Does clearing x old new t u
+pub cleared_unlisted : (names : Option (List (List ℕ))) (x : Unit {0}) (old new : Seen) (t u : List ℕ) → names ≡ None
+    → Does (Then ListAsides Done) names old new t u → Does clearing x old new t u
 cleared_unlisted names x old new t u none listed =
-    does_then ListAsides clearing_listed None tt old new new t u u (subst (λ (ns : Option (List (List ℕ))). Does (Then ListAsides Done) ns old new t u) none listed) (does_done tt new u)
+    does_then ListAsides clearing_listed None tt old new new t u u
+    (subst (λ (ns : Option (List (List ℕ))). Does (Then ListAsides Done) ns old new t u) none listed) (does_done tt new u)
 
 pub cleared : (listed : Option (List (List ℕ))) (names : List (List ℕ)) (x : Unit {0}) (old mid new : Seen) (t u v : List ℕ) → listed ≡ Some names
     → Does (Then ListAsides Done) listed old mid t u → Does (clearing_listed (Some names)) x mid new u v → Does clearing x old new t v
 cleared listed names x old mid new t u v is did rest =
-    does_then ListAsides clearing_listed (Some names) x old mid new t u v (subst (λ (ns : Option (List (List ℕ))). Does (Then ListAsides Done) ns old mid t u) is did) rest
+    does_then ListAsides clearing_listed (Some names) x old mid new t u v
+    (subst (λ (ns : Option (List (List ℕ))). Does (Then ListAsides Done) ns old mid t u) is did) rest
 
 pub none_there : (names : List (String Global)) (empty : Bool) → empty ≡ (length names == 0) → empty ≡ true → names ≡ []
 none_there [] empty is so = refl

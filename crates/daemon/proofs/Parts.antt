@@ -28,16 +28,19 @@ if_ok (Err e) f p = tt
 
 -- ---- frames
 
-pub offering_none : (sends : List Sending) (unsent : ℕ) (seen : Seen) (text : List ℕ) → length sends < 1 → Does (offering (map sending_of sends) unsent) unsent seen seen text text
+pub offering_none : (sends : List Sending) (unsent : ℕ) (seen : Seen) (text : List ℕ) → length sends < 1
+    → Does (offering (map sending_of sends) unsent) unsent seen seen text text
 offering_none [] unsent seen text few = does_done unsent seen text
 offering_none (s ∷ sends) unsent seen text few = absurd (omega (arith, few))
 
 pub offering_more : (sends later : List Sending) (first : Sending) (unsent set : ℕ) (taken : Bool) (old mid new : Seen) (t u v : List ℕ) → sends ≡ first ∷ later
-    → Does (Then (Offer first.iface.number first.bytes.items) Done) taken old mid t u → Does (offering (map sending_of later) (marked unsent first.iface.number taken)) set mid new u v
+    → Does (Then (Offer first.iface.number first.bytes.items) Done) taken old mid t u
+    → Does (offering (map sending_of later) (marked unsent first.iface.number taken)) set mid new u v
     → Does (offering (map sending_of sends) unsent) set old new t v
 offering_more sends later first unsent set taken old mid new t u v same one rest =
     subst (λ (all : List Sending). Does (offering (map sending_of all) unsent) set old new t v) (sym same)
-    (does_then (Offer first.iface.number first.bytes.items) (λ ok. offering (map sending_of later) (marked unsent first.iface.number ok)) taken set old mid new t u v one rest)
+    (does_then (Offer first.iface.number first.bytes.items)
+    (λ ok. offering (map sending_of later) (marked unsent first.iface.number ok)) taken set old mid new t u v one rest)
 
 -- a slice is its first item and the rest
 pub first_and_rest : (sends : List Sending) (d : Sending) → 1 ≤ length sends → sends ≡ get_or sends 0 d ∷ take (length sends - 1) (drop 1 sends)
@@ -72,29 +75,37 @@ drop_one : (changes : List HostChange) (i : ℕ) (d : HostChange) → i < length
 drop_one changes i d lt = rw add-one (drop-cons changes i d lt)
 
 -- the rest goes on after one more
-pub changing_more : (changes : List HostChange) (i : ℕ) (d : HostChange) (done : Bool) (known next result : Option (List HostRow)) (old mid new : Seen) (t u v : List ℕ) → i < length changes
+pub changing_more : (changes : List HostChange) (i : ℕ) (d : HostChange) (done : Bool) (known next result : Option (List HostRow)) (old mid new : Seen)
+    (t u v : List ℕ)
+    → i < length changes
     → Does (Then (Change (get_or changes i d)) Done) done old mid t u → next ≡ known_with done (get_or changes i d) known
     → Does (changing (drop (i + 1) changes) next) result mid new u v → Does (changing (drop i changes) known) result old new t v
 changing_more changes i d done known next result old mid new t u v lt one next_is rest =
     subst (λ (cs : List HostChange). Does (changing cs known) result old new t v) (sym (drop_one changes i d lt))
-    (does_then (Change (get_or changes i d)) (λ done. changing (drop (i + 1) changes) (known_with done (get_or changes i d) known)) done result old mid new t u v one
+    (does_then (Change (get_or changes i d))
+    (λ done. changing (drop (i + 1) changes) (known_with done (get_or changes i d) known)) done result old mid new t u v one
     (subst (λ (k : Option (List HostRow)). Does (changing (drop (i + 1) changes) k) result mid new u v) next_is rest))
 
 -- nothing is left
-pub changing_end : (changes : List HostChange) (i : ℕ) (known : Option (List HostRow)) (seen : Seen) (text : List ℕ) → length changes ≤ i → Does (changing (drop i changes) known) known seen seen text text
-changing_end changes i known seen text le = subst (λ (cs : List HostChange). Does (changing cs known) known seen seen text text) (sym (drop_all i changes le)) (does_done known seen text)
+pub changing_end : (changes : List HostChange) (i : ℕ) (known : Option (List HostRow)) (seen : Seen) (text : List ℕ) → length changes ≤ i
+    → Does (changing (drop i changes) known) known seen seen text text
+changing_end changes i known seen text le =
+    subst (λ (cs : List HostChange). Does (changing cs known) known seen seen text text) (sym (drop_all i changes le)) (does_done known seen text)
 
 -- ---- the host
 
-pub listed_none : (managed : List Managed) (wanted : List HostRow) (known rows : Option (List HostRow)) (old new : Seen) (t u : List ℕ) → known ≡ None → rows ≡ None
+pub listed_none : (managed : List Managed) (wanted : List HostRow) (known rows : Option (List HostRow)) (old new : Seen) (t u : List ℕ) → known ≡ None
+    → rows ≡ None
     → Does (Then ListRows Done) rows old new t u → Does (hosting managed wanted known) None old new t u
 listed_none managed wanted known rows old new t u known_is rows_are listed =
     subst (λ (k : Option (List HostRow)). Does (hosting managed wanted k) None old new t u) (sym known_is)
     (does_then ListRows (hosting_listed managed wanted) None None old new new t u u
     (subst (λ (r : Option (List HostRow)). Does (Then ListRows Done) r old new t u) rows_are listed) (does_done None new u))
 
-pub listed_some : (managed : List Managed) (wanted rows mine : List HostRow) (known listed result : Option (List HostRow)) (old mid new : Seen) (t u v : List ℕ) → known ≡ None → listed ≡ Some rows → mine ≡ rows_on managed rows
-    → Does (Then ListRows Done) listed old mid t u → Does (changing (changes mine wanted) (Some mine)) result mid new u v → Does (hosting managed wanted known) result old new t v
+pub listed_some : (managed : List Managed) (wanted rows mine : List HostRow) (known listed result : Option (List HostRow)) (old mid new : Seen) (t u v : List ℕ)
+    → known ≡ None → listed ≡ Some rows → mine ≡ rows_on managed rows
+    → Does (Then ListRows Done) listed old mid t u → Does (changing (changes mine wanted) (Some mine)) result mid new u v
+    → Does (hosting managed wanted known) result old new t v
 listed_some managed wanted rows mine known listed result old mid new t u v known_is rows_are mine_is did rest =
     subst (λ (k : Option (List HostRow)). Does (hosting managed wanted k) result old new t v) (sym known_is)
     (does_then ListRows (hosting_listed managed wanted) (Some rows) result old mid new t u v

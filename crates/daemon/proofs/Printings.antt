@@ -15,5 +15,7 @@ hold_lines-append (Addr i n ∷ a) b = ap (λ (ls : List Line). lines.Hold i n �
 hold_lines-append (Route i d w m ∷ a) b = hold_lines-append a b
 
 -- a loop that prints each address
-pub holds_more : (rows : List HostRow) (i : ℕ) (d : HostRow) (t u v : List ℕ) → i < length rows → Prints t u (hold_lines (take i rows)) → Prints u v (hold_lines (get_or rows i d ∷ [])) → Prints t v (hold_lines (take (i + 1) rows))
-holds_more rows i d t u v lt p q = prints_same (prints_then p q) (sym (hold_lines-append (take i rows) (get_or rows i d ∷ [])) ∙ ap hold_lines (sym (take_more rows i d lt)))
+pub holds_more : (rows : List HostRow) (i : ℕ) (d : HostRow) (t u v : List ℕ) → i < length rows → Prints t u (hold_lines (take i rows))
+    → Prints u v (hold_lines (get_or rows i d ∷ [])) → Prints t v (hold_lines (take (i + 1) rows))
+holds_more rows i d t u v lt p q =
+    prints_same (prints_then p q) (sym (hold_lines-append (take i rows) (get_or rows i d ∷ [])) ∙ ap hold_lines (sym (take_more rows i d lt)))

@@ -16,7 +16,8 @@ use Rattle.turn_model.specs.Foretold.{told_turns, told_after, foretold_turns, le
 use Rattle.daemon.specs.Streams.{WritesLines}
 use Rattle.daemon.specs.Serving.{told_last, AreFirst, AreWhole, Goes, Ends, AreManyTurns}
 
-pub turns-append : (managed : List Managed) (from : Life) (a b : List Met) → AreTurns managed from a → AreTurns managed (life_after from a) b → AreTurns managed from (a ++ b)
+pub turns-append : (managed : List Managed) (from : Life) (a b : List Met) → AreTurns managed from a → AreTurns managed (life_after from a) b
+    → AreTurns managed from (a ++ b)
 turns-append managed from [] b p q = q
 turns-append managed from (met ∷ a) b p q = (p.0, turns-append managed met.life a b p.1 q)
 
@@ -27,7 +28,8 @@ life_after-append from (met ∷ a) b = life_after-append met.life a b
 pub turns_calls-append : (from : Life) (a b : List Met) → turns_calls from (a ++ b) ≡ turns_calls from a ++ turns_calls (life_after from a) b
 turns_calls-append from [] b = refl
 turns_calls-append from (met ∷ a) b =
-    ap (λ (cs : List Call). turn_calls from met ++ cs) (turns_calls-append met.life a b) ∙ sym (append_assoc (turn_calls from met) (turns_calls met.life a) (turns_calls (life_after met.life a) b))
+    ap (λ (cs : List Call). turn_calls from met ++ cs) (turns_calls-append met.life a b)
+    ∙ sym (append_assoc (turn_calls from met) (turns_calls met.life a) (turns_calls (life_after met.life a) b))
 
 pub lines_then : (old mid new : Option (List ℕ)) (a b : List Line) → WritesLines old mid a → WritesLines mid new b → WritesLines old new (a ++ b)
 lines_then None mid new a b p q = subst (λ (m : Option (List ℕ)). WritesLines m new b) p q
@@ -56,7 +58,8 @@ first_then managed from mid to (Some world) at_mid new a b p q =
     }
 
 whole_from : (managed : List Managed) (from mid : Life) (old : Option World) (at_mid : Seen) (a b : List Met)
-    → IfSome old (λ world. AreFirst managed from world a mid at_mid) → AreWhole managed mid at_mid b → IfSome old (λ world. foretold_turns managed from world ≡ a ++ b)
+    → IfSome old (λ world. AreFirst managed from world a mid at_mid) → AreWhole managed mid at_mid b
+    → IfSome old (λ world. foretold_turns managed from world ≡ a ++ b)
 whole_from managed from mid None at_mid a b p q = tt
 whole_from managed from mid (Some world) at_mid a b p q =
     p.turns ∙ ap (λ (ms : List Met). a ++ ms) (subst (λ (w : Option World). IfSome w (λ world. foretold_turns managed mid world ≡ b)) p.tells q)
@@ -67,13 +70,16 @@ whole_then managed from mid old at_mid a b p q = whole_from managed from mid (wo
 
 -- what is left after more turns
 left_from : (managed : List Managed) (from mid : Life) (old : Option World) (at_mid : Seen) (new : Option World) (a : List Met)
-    → IfSome old (λ world. AreFirst managed from world a mid at_mid) → IfSome (world_of at_mid) (λ world. option_map left_in new ≡ Some (left_in (told_last managed mid world)))
+    → IfSome old (λ world. AreFirst managed from world a mid at_mid)
+    → IfSome (world_of at_mid) (λ world. option_map left_in new ≡ Some (left_in (told_last managed mid world)))
     → IfSome old (λ world. option_map left_in new ≡ Some (left_in (told_last managed from world)))
 left_from managed from mid None at_mid new a p q = tt
 left_from managed from mid (Some world) at_mid new a p q =
-    subst (λ (w : Option World). IfSome w (λ world. option_map left_in new ≡ Some (left_in (told_last managed mid world)))) p.tells q ∙ ap (λ (w : World). Some (left_in w)) (sym p.ends)
+    subst (λ (w : Option World). IfSome w (λ world. option_map left_in new ≡ Some (left_in (told_last managed mid world)))) p.tells q
+    ∙ ap (λ (w : World). Some (left_in w)) (sym p.ends)
 
-first_none : (managed : List Managed) (life : Life) (seen : Seen) (told : Option World) → world_of seen ≡ told → IfSome told (λ world. AreFirst managed life world [] life seen)
+first_none : (managed : List Managed) (life : Life) (seen : Seen) (told : Option World) → world_of seen ≡ told
+    → IfSome told (λ world. AreFirst managed life world [] life seen)
 first_none managed life seen None same = tt
 first_none managed life seen (Some world) same = record { then_told = world; tells = same; turns = refl; ends = refl; counted = omega arith }
 
@@ -93,25 +99,34 @@ pub goes_then : (managed : List Managed) (from mid to : Life) (old at_mid new : 
 goes_then managed from mid to old at_mid new out out_mid out_to a b p q = record {
   turns = turns-append managed from a b p.turns (subst (λ (life : Life). AreTurns managed life b) p.after q.turns);
   after = q.after ∙ ap (λ (life : Life). life_after life b) p.after ∙ sym (life_after-append from a b);
-  written = subst (λ (ls : List Line). WritesLines out out_to ls) (sym (flat_map-append turn_lines a b)) (lines_then out out_mid out_to (flat_map turn_lines a) (flat_map turn_lines b) p.written q.written);
+  written =
+      subst (λ (ls : List Line). WritesLines out out_to ls) (sym (flat_map-append turn_lines a b))
+      (lines_then out out_mid out_to (flat_map turn_lines a) (flat_map turn_lines b) p.written q.written);
   tells = subst (λ (cs : List Call). Tells old new cs) (sym (turns_calls-append from a b))
-      (tells_then old at_mid new (turns_calls from a) (turns_calls (life_after from a) b) p.tells (subst (λ (life : Life). Tells at_mid new (turns_calls life b)) p.after q.tells));
+      (tells_then old at_mid new (turns_calls from a) (turns_calls (life_after from a) b) p.tells
+      (subst (λ (life : Life). Tells at_mid new (turns_calls life b)) p.after q.tells));
   foretold = first_then managed from mid to (world_of old) at_mid new a b p.foretold q.foretold;
 }
 
-pub ends_then : (allowed then_allowed : ℕ) (managed : List Managed) (from mid to : Life) (old at_mid new : Seen) (out out_mid out_to : Option (List ℕ)) (a : List Met)
-    → length a + then_allowed ≤ allowed → Goes managed from old out mid at_mid out_mid a → Ends then_allowed managed mid at_mid out_mid to new out_to → Ends allowed managed from old out to new out_to
+pub ends_then : (allowed then_allowed : ℕ) (managed : List Managed) (from mid to : Life) (old at_mid new : Seen) (out out_mid out_to : Option (List ℕ))
+    (a : List Met)
+    → length a + then_allowed ≤ allowed → Goes managed from old out mid at_mid out_mid a → Ends then_allowed managed mid at_mid out_mid to new out_to
+    → Ends allowed managed from old out to new out_to
 ends_then allowed then_allowed managed from mid to old at_mid new out out_mid out_to a fits p q = record {
   mets = a ++ q.mets;
   turns = turns-append managed from a q.mets p.turns (subst (λ (life : Life). AreTurns managed life q.mets) p.after q.turns);
   after = q.after ∙ ap (λ (life : Life). life_after life q.mets) p.after ∙ sym (life_after-append from a q.mets);
-  written = subst (λ (ls : List Line). WritesLines out out_to ls) (sym (flat_map-append turn_lines a q.mets)) (lines_then out out_mid out_to (flat_map turn_lines a) (flat_map turn_lines q.mets) p.written q.written);
+  written =
+      subst (λ (ls : List Line). WritesLines out out_to ls) (sym (flat_map-append turn_lines a q.mets))
+      (lines_then out out_mid out_to (flat_map turn_lines a) (flat_map turn_lines q.mets) p.written q.written);
   last = q.last;
   last_is = q.last_is;
   within = omega (arith, fits, q.within, length-append a q.mets);
   tells = subst (λ (cs : List Call). Tells old new cs)
-      (sym (append_assoc (turns_calls from a) (turns_calls (life_after from a) q.mets) q.last) ∙ ap (λ (cs : List Call). cs ++ q.last) (sym (turns_calls-append from a q.mets)))
-      (tells_then old at_mid new (turns_calls from a) (turns_calls (life_after from a) q.mets ++ q.last) p.tells (subst (λ (life : Life). Tells at_mid new (turns_calls life q.mets ++ q.last)) p.after q.tells));
+      (sym (append_assoc (turns_calls from a) (turns_calls (life_after from a) q.mets) q.last)
+      ∙ ap (λ (cs : List Call). cs ++ q.last) (sym (turns_calls-append from a q.mets)))
+      (tells_then old at_mid new (turns_calls from a) (turns_calls (life_after from a) q.mets ++ q.last) p.tells
+      (subst (λ (life : Life). Tells at_mid new (turns_calls life q.mets ++ q.last)) p.after q.tells));
   whole = whole_then managed from mid old at_mid a q.mets p.foretold q.whole;
   left = left_from managed from mid (world_of old) at_mid (world_of new) a p.foretold q.left;
 }
@@ -124,7 +139,8 @@ over_is_empty managed life world (given ∷ coming) over = rw over refl
 over_whole : (managed : List Managed) (from to : Life) (old : Option World) (new : Seen) (mets : List Met) → is_over to ≡ true
     → IfSome old (λ world. AreFirst managed from world mets to new) → IfSome old (λ world. foretold_turns managed from world ≡ mets)
 over_whole managed from to None new mets over p = tt
-over_whole managed from to (Some world) new mets over p = p.turns ∙ ap (λ (ms : List Met). mets ++ ms) (over_is_empty managed to p.then_told p.then_told.link.told.coming over) ∙ append-nil mets
+over_whole managed from to (Some world) new mets over p =
+    p.turns ∙ ap (λ (ms : List Met). mets ++ ms) (over_is_empty managed to p.then_told p.then_told.link.told.coming over) ∙ append-nil mets
 
 -- nor does anything change then
 over_stays : (managed : List Managed) (life : Life) (world : World) (coming : List Given) → is_over life ≡ true → told_after managed life world coming ≡ world
@@ -132,7 +148,8 @@ over_stays managed life world [] over = refl
 over_stays managed life world (given ∷ coming) over = rw over refl
 
 over_left : (managed : List Managed) (from to : Life) (old : Option World) (new : Seen) (mets : List Met) → is_over to ≡ true
-    → IfSome old (λ world. AreFirst managed from world mets to new) → IfSome old (λ world. option_map left_in (world_of new) ≡ Some (left_in (told_last managed from world)))
+    → IfSome old (λ world. AreFirst managed from world mets to new)
+    → IfSome old (λ world. option_map left_in (world_of new) ≡ Some (left_in (told_last managed from world)))
 over_left managed from to None new mets over p = tt
 over_left managed from to (Some world) new mets over p =
     ap (option_map left_in) p.tells ∙ ap (λ (w : World). Some (left_in w)) (sym (p.ends ∙ over_stays managed to p.then_told p.then_told.link.told.coming over))

@@ -37,7 +37,8 @@ abbrev pub step_with : Client → List Sending → List Job → ClientStep
 step_with client sends jobs = record { client = client; sends = sends; reports = []; jobs = jobs }
 
 -- what the client's step asked: its frames, the host calls, the jobs of hooks, and the files
-pub record Acts (managed : List Managed) (outlook : Outlook) (step : ClientStep) (moment unsent : ℕ) (known : Option (List HostRow)) (hooks : Supervision) (files : List KeptFile) (old new : Seen) (t u : List ℕ) : Type 0 where
+pub record Acts (managed : List Managed) (outlook : Outlook) (step : ClientStep) (moment unsent : ℕ) (known : Option (List HostRow)) (hooks : Supervision)
+    (files : List KeptFile) (old new : Seen) (t u : List ℕ) : Type 0 where
   pub one : Seen
   pub two : Seen
   pub three : Seen
@@ -49,7 +50,8 @@ pub record Acts (managed : List Managed) (outlook : Outlook) (step : ClientStep)
   pub runs : Does (hooking moment step.jobs outlook.hooks) hooks two three t_two t_three
   pub keeps : Does (keeping step.client.ifaces outlook.files) files three new t_three u
 
-pub acted : (managed : List Managed) (outlook : Outlook) (step : ClientStep) (moment unsent : ℕ) (stop : Option ℕ) (known : Option (List HostRow)) (hooks : Supervision) (files : List KeptFile) (old new : Seen) (t u : List ℕ)
+pub acted : (managed : List Managed) (outlook : Outlook) (step : ClientStep) (moment unsent : ℕ) (stop : Option ℕ) (known : Option (List HostRow))
+    (hooks : Supervision) (files : List KeptFile) (old new : Seen) (t u : List ℕ)
     → Acts managed outlook step moment unsent known hooks files old new t u
     → Does (acting managed outlook step moment stop) (left step.client known files hooks moment stop unsent) old new t u
 acted managed outlook step moment unsent stop known hooks files old new t u acts =
@@ -60,7 +62,8 @@ acted managed outlook step moment unsent stop known hooks files old new t u acts
 
 -- ---- a turn
 
-pub acts_as : (managed : List Managed) (life : Life) (wake : Wake) (bytes : List ℕ) (turn : Turn) (hooks : Supervision) (client : Client) (asked : Asked) (jobs : List Job) (moment : ℕ) (stop : Option ℕ)
+pub acts_as : (managed : List Managed) (life : Life) (wake : Wake) (bytes : List ℕ) (turn : Turn) (hooks : Supervision) (client : Client) (asked : Asked)
+    (jobs : List Job) (moment : ℕ) (stop : Option ℕ)
     → turn ≡ input_of life wake bytes → Steps (client_turned turn life.client) client asked → jobs ≡ (client_turned turn life.client).jobs
     → moment ≡ turn_moment life wake → stop ≡ stop_after life.stop wake.event moment
     → acting managed (outlook_with life hooks) (step_with client asked.sends jobs) moment stop
@@ -72,15 +75,20 @@ acts_as managed life wake bytes turn hooks client asked jobs moment stop turn_is
     let stop_here : stop ≡ stop_after life.stop wake.event (turn_moment life wake) = stop_is ∙ ap (stop_after life.stop wake.event) moment_is in
     λ i. acting managed (outlook_with life hooks) (step_with (client_is i) (sends_are i) (jobs_are i)) (moment_is i) (stop_here i)
 
-pub turns_as : (managed : List Managed) (life to : Life) (wake : Wake) (bytes : List ℕ) (hooks : Supervision) (moment : ℕ) (old mid new : Seen) (t u v : List ℕ) → moment ≡ turn_moment life wake
+pub turns_as : (managed : List Managed) (life to : Life) (wake : Wake) (bytes : List ℕ) (hooks : Supervision) (moment : ℕ) (old mid new : Seen) (t u v : List ℕ)
+    → moment ≡ turn_moment life wake
     → Does (polling moment life.hooks) hooks old mid t u
-    → Does (acting managed (outlook_with life hooks) (step_of life wake bytes) (turn_moment life wake) (stop_after life.stop wake.event (turn_moment life wake))) to mid new u v
+    → Does
+    (acting managed (outlook_with life hooks) (step_of life wake bytes) (turn_moment life wake) (stop_after life.stop wake.event (turn_moment life wake)))
+    to mid new u v
     → Does (turn_asks managed life wake bytes) to old new t v
 unfolding turn_asks
 turns_as managed life to wake bytes hooks moment old mid new t u v moment_is polls acts =
-    does_after (polling (turn_moment life wake) life.hooks) _ hooks to old mid new t u v (subst (λ (m : ℕ). Does (polling m life.hooks) hooks old mid t u) moment_is polls) acts
+    does_after (polling (turn_moment life wake) life.hooks) _ hooks to old mid new t u v
+    (subst (λ (m : ℕ). Does (polling m life.hooks) hooks old mid t u) moment_is polls) acts
 
-pub turn_made : (managed : List Managed) (life to : Life) (wake : Wake) (bytes : List ℕ) (turn : Turn) (hooks : Supervision) (client : Client) (asked : Asked) (jobs : List Job) (moment : ℕ) (stop asked_until : Option ℕ)
+pub turn_made : (managed : List Managed) (life to : Life) (wake : Wake) (bytes : List ℕ) (turn : Turn) (hooks : Supervision) (client : Client) (asked : Asked)
+    (jobs : List Job) (moment : ℕ) (stop asked_until : Option ℕ)
     (old mid new : Seen) (s t u v w : List ℕ)
     → turn ≡ input_of life wake bytes → Steps (client_turned turn life.client) client asked → jobs ≡ (client_turned turn life.client).jobs
     → moment ≡ turn_moment life wake → stop ≡ stop_after life.stop wake.event moment → to.now ≡ moment
@@ -88,10 +96,13 @@ pub turn_made : (managed : List Managed) (life to : Life) (wake : Wake) (bytes :
     → Does (acting managed (outlook_with life hooks) (step_with client asked.sends jobs) moment stop) to mid new u v
     → Prints v w (lines.Until asked_until ∷ []) → asked_until ≡ until to
     → MakesTurn managed life wake bytes to old new s w
-turn_made managed life to wake bytes turn hooks client asked jobs moment stop asked_until old mid new s t u v w turn_is steps jobs_are moment_is stop_is now_is line polls acts last until_is =
+turn_made managed life to wake bytes turn hooks client asked jobs moment stop asked_until old mid new s t u v w turn_is steps jobs_are moment_is stop_is now_is
+    line polls acts last until_is =
     let does : Does (turn_asks managed life wake bytes) to old new t v =
     turns_as managed life to wake bytes hooks moment old mid new t u v moment_is polls
-    (subst (λ (asks : Asks Life). Does asks to mid new u v) (acts_as managed life wake bytes turn hooks client asked jobs moment stop turn_is steps jobs_are moment_is stop_is) acts) in
+    (subst (λ (asks : Asks Life). Does asks to mid new u v)
+    (acts_as managed life wake bytes turn hooks client asked jobs moment stop turn_is steps jobs_are moment_is stop_is) acts)
+    in
     record {
       calls = does.calls;
       did = does.did;
@@ -113,20 +124,25 @@ abbrev pub first_outlook : List KeptFile → Supervision → Outlook
 first_outlook files hooks = record { known = None; files = files; hooks = hooks }
 
 -- what the client's step asks is what the opening's is to ask
-pub opening_is : (managed : List Managed) (specs : List IfSpec) (begin : Begin) (beginnings : List Beginning) (found : List KeptFile) (hooks : Supervision) (client : Client) (asked : Asked) (jobs : List Job) (moment : ℕ) (old mid : Seen) (t u : List ℕ)
+pub opening_is : (managed : List Managed) (specs : List IfSpec) (begin : Begin) (beginnings : List Beginning) (found : List KeptFile) (hooks : Supervision)
+    (client : Client) (asked : Asked) (jobs : List Job) (moment : ℕ) (old mid : Seen) (t u : List ℕ)
     → Steps (opening beginnings specs begin) client asked → jobs ≡ (opening beginnings specs begin).jobs → moment ≡ moment_of begin.at → hooks ≡ idle
     → (p : Loads managed beginnings found old mid t u)
     → acting managed (first_outlook found hooks) (step_with client asked.sends jobs) moment None
     ≡ acting managed (outlook_from managed p.loads.loaded) (opening_step managed p.loads.loaded specs begin) (moment_of begin.at) None
 opening_is managed specs begin beginnings found hooks client asked jobs moment old mid t u steps jobs_were moment_is hooks_are p =
     let loaded : FilesLoaded = p.loads.loaded in
-    let here : Steps (opening_step managed loaded specs begin) client asked = subst (λ (bs : List Beginning). Steps (opening bs specs begin) client asked) p.loads.beginnings_are steps in
-    let jobs_are : jobs ≡ (opening_step managed loaded specs begin).jobs = subst (λ (bs : List Beginning). jobs ≡ (opening bs specs begin).jobs) p.loads.beginnings_are jobs_were in
+    let here : Steps (opening_step managed loaded specs begin) client asked =
+    subst (λ (bs : List Beginning). Steps (opening bs specs begin) client asked) p.loads.beginnings_are steps in
+    let jobs_are : jobs ≡ (opening_step managed loaded specs begin).jobs =
+    subst (λ (bs : List Beginning). jobs ≡ (opening bs specs begin).jobs) p.loads.beginnings_are jobs_were in
     λ i. acting managed (first_outlook (p.loads.files_are i) (hooks_are i)) (step_with (here.goes_on i) (here.offers i) (jobs_are i)) (moment_is i) None
 
-pub opens_as : (managed : List Managed) (specs : List IfSpec) (begin : Begin) (beginnings : List Beginning) (found : List KeptFile) (to : Life) (hooks : Supervision) (client : Client) (asked : Asked) (jobs : List Job) (moment : ℕ) (old mid new : Seen) (t u v : List ℕ)
+pub opens_as : (managed : List Managed) (specs : List IfSpec) (begin : Begin) (beginnings : List Beginning) (found : List KeptFile) (to : Life)
+    (hooks : Supervision) (client : Client) (asked : Asked) (jobs : List Job) (moment : ℕ) (old mid new : Seen) (t u v : List ℕ)
     → Steps (opening beginnings specs begin) client asked → jobs ≡ (opening beginnings specs begin).jobs → moment ≡ moment_of begin.at → hooks ≡ idle
-    → Loads managed beginnings found old mid t u → Does (acting managed (first_outlook found hooks) (step_with client asked.sends jobs) moment None) to mid new u v
+    → Loads managed beginnings found old mid t u
+    → Does (acting managed (first_outlook found hooks) (step_with client asked.sends jobs) moment None) to mid new u v
     → Does (opening_asks managed specs begin) to old new t v
 unfolding opening_asks
 opens_as managed specs begin beginnings found to hooks client asked jobs moment old mid new t u v steps jobs_were moment_is hooks_are p acts =
@@ -134,17 +150,25 @@ opens_as managed specs begin beginnings found to hooks client asked jobs moment 
     let acts_here : Does (acting managed (outlook_from managed loaded) (opening_step managed loaded specs begin) (moment_of begin.at) None) to mid new u v =
     subst (λ (asks : Asks Life). Does asks to mid new u v)
     (opening_is managed specs begin beginnings found hooks client asked jobs moment old mid t u steps jobs_were moment_is hooks_are p) acts in
-    does_after clearing (λ _. after (loading_files managed) (λ files. acting managed (outlook_from managed files) (opening_step managed files specs begin) (moment_of begin.at) None)) tt to old p.one new t p.t_one v p.clears
-    (does_after (loading_files managed) (λ files. acting managed (outlook_from managed files) (opening_step managed files specs begin) (moment_of begin.at) None) loaded to p.one mid new p.t_one u v p.loads.does acts_here)
+    does_after clearing
+    (λ _. after (loading_files managed)
+    (λ files. acting managed (outlook_from managed files) (opening_step managed files specs begin) (moment_of begin.at) None))
+    tt to old p.one new t p.t_one v p.clears
+    (does_after (loading_files managed)
+    (λ files. acting managed (outlook_from managed files) (opening_step managed files specs begin) (moment_of begin.at) None) loaded to p.one mid new
+    p.t_one u v p.loads.does acts_here)
 
-pub opening_made : (managed : List Managed) (specs : List IfSpec) (begin : Begin) (beginnings : List Beginning) (found : List KeptFile) (to : Life) (hooks : Supervision) (client : Client) (asked : Asked) (jobs : List Job) (moment : ℕ) (asked_until : Option ℕ)
+pub opening_made : (managed : List Managed) (specs : List IfSpec) (begin : Begin) (beginnings : List Beginning) (found : List KeptFile) (to : Life)
+    (hooks : Supervision) (client : Client) (asked : Asked) (jobs : List Job) (moment : ℕ) (asked_until : Option ℕ)
     (old mid new : Seen) (s t u v w : List ℕ)
     → Steps (opening beginnings specs begin) client asked → jobs ≡ (opening beginnings specs begin).jobs → moment ≡ moment_of begin.at → hooks ≡ idle
     → Prints s t (lines.Start begin ∷ [])
-    → Loads managed beginnings found old mid t u → Does (acting managed (first_outlook found hooks) (step_with client asked.sends jobs) moment None) to mid new u v
+    → Loads managed beginnings found old mid t u
+    → Does (acting managed (first_outlook found hooks) (step_with client asked.sends jobs) moment None) to mid new u v
     → Prints v w (lines.Until asked_until ∷ []) → asked_until ≡ until to
     → MakesOpening managed specs begin to old new s w
-opening_made managed specs begin beginnings found to hooks client asked jobs moment asked_until old mid new s t u v w steps jobs_are moment_is hooks_are line p acts last until_is =
+opening_made managed specs begin beginnings found to hooks client asked jobs moment asked_until old mid new s t u v w steps jobs_are moment_is hooks_are line p
+    acts last until_is =
     let does : Does (opening_asks managed specs begin) to old new t v =
     opens_as managed specs begin beginnings found to hooks client asked jobs moment old mid new t u v steps jobs_are moment_is hooks_are p acts in
     record {

@@ -51,12 +51,15 @@ abbrev LinkAdds : Seen → Seen → List LinkCall → Type 0
 LinkAdds old mid calls = Adds (option_map (λ t. t.calls) old.link.told) (option_map (λ t. t.calls) mid.link.told) calls
 
 others_answer : (old mid : Seen) → OnlyLink old mid → Answered old.store.failing [] old.store.told mid.store.told
-others_answer old mid only = subst (λ (s : Device StoreTold StoreFails). Answered old.store.failing [] old.store.told s.told) (sym only.store) (answered_none old.store.failing old.store.told)
+others_answer old mid only =
+    subst (λ (s : Device StoreTold StoreFails). Answered old.store.failing [] old.store.told s.told) (sym only.store)
+    (answered_none old.store.failing old.store.told)
 
 counts_stay : {C : Type 0} (failed : C → Bool) (old new : ℕ) → new ≡ old → CountsFailed failed [] old new
 counts_stay failed old new same = subst (CountsFailed failed [] old) (sym same) (counts_none failed old)
 
-pub link_alone : (old mid : Seen) (asked : Option ℕ) (given : Option Given) → OnlyLink old mid → mid.waiting.begins ≡ old.waiting.begins → LinkAdds old mid (Waited asked given ∷ []) → Tells old mid (Link (Waited asked given) ∷ [])
+pub link_alone : (old mid : Seen) (asked : Option ℕ) (given : Option Given) → OnlyLink old mid → mid.waiting.begins ≡ old.waiting.begins
+    → LinkAdds old mid (Waited asked given ∷ []) → Tells old mid (Link (Waited asked given) ∷ [])
 link_alone old mid asked given only begins adds = record {
   link = adds;
   host = subst (λ h. Adds (option_map (λ t. t.calls) old.host.told) (option_map (λ t. t.calls) h.told) []) (sym only.host) (adds_none _);
@@ -91,13 +94,18 @@ link_quiet old mid only begins adds = record {
 }
 
 -- the worlds before and after differ in what the link tells alone
-pub same_but_link : (old mid : Seen) → OnlyLink old mid → world_from (told_from mid.link.told old.link.failing) (told_of old.host) (told_of old.store) (told_of old.hooks) ≡ world_of mid
-same_but_link old mid only = λ i. world_from (told_from mid.link.told (sym only.failing i)) (told_of (sym only.host i)) (told_of (sym only.store i)) (told_of (sym only.hooks i))
+pub same_but_link : (old mid : Seen) → OnlyLink old mid
+    → world_from (told_from mid.link.told old.link.failing) (told_of old.host) (told_of old.store) (told_of old.hooks) ≡ world_of mid
+same_but_link old mid only =
+    λ i. world_from (told_from mid.link.told (sym only.failing i)) (told_of (sym only.host i)) (told_of (sym only.store i)) (told_of (sym only.hooks i))
 
 -- ---- beginning
 
-begun_at : (begin : Begin) (link mid : Option LinkTold) (failing : Option (List ℕ)) (host : Option (Told HostTold (List ℕ))) (store : Option (Told StoreTold StoreFails)) (hooks : Option (Told HooksTold (List ℕ))) → Begins link mid (began begin)
-    → IfSome (world_from (told_from link failing) host store hooks) (λ world. (begin ≡ world.link.told.begin) × (world_from (told_from mid failing) host store hooks ≡ Some world))
+begun_at : (begin : Begin) (link mid : Option LinkTold) (failing : Option (List ℕ)) (host : Option (Told HostTold (List ℕ)))
+    (store : Option (Told StoreTold StoreFails)) (hooks : Option (Told HooksTold (List ℕ)))
+    → Begins link mid (began begin)
+    → IfSome (world_from (told_from link failing) host store hooks)
+    (λ world. (begin ≡ world.link.told.begin) × (world_from (told_from mid failing) host store hooks ≡ Some world))
 begun_at begin None mid failing host store hooks begins = tt
 begun_at begin (Some told) mid None host store hooks begins = tt
 begun_at begin (Some told) mid (Some failing) None store hooks begins = tt
@@ -107,7 +115,8 @@ begun_at begin (Some told) mid (Some failing) (Some host) (Some store) (Some hoo
     (begins.0, ap (λ (l : Option LinkTold). world_from (told_from l (Some failing)) (Some host) (Some store) (Some hooks)) begins.1)
 
 -- a life begins as the link tells
-pub begun_world : (begin : Begin) (old mid : Seen) → BeginsThere old mid (began begin) → IfSome (world_of old) (λ world. (begin ≡ world.link.told.begin) × (world_of mid ≡ Some world))
+pub begun_world : (begin : Begin) (old mid : Seen) → BeginsThere old mid (began begin)
+    → IfSome (world_of old) (λ world. (begin ≡ world.link.told.begin) × (world_of mid ≡ Some world))
 begun_world begin old mid begins =
     subst (λ (m : Option World). IfSome (world_of old) (λ world. (begin ≡ world.link.told.begin) × (m ≡ Some world))) (same_but_link old mid begins.only)
     (begun_at begin old.link.told mid.link.told old.link.failing (told_of old.host) (told_of old.store) (told_of old.hooks) begins.told)
@@ -126,8 +135,11 @@ pub record Woke (asked : Option ℕ) (wake : Wake) (bytes : List ℕ) (world : W
 abbrev world_with : LinkTold → List ℕ → Told HostTold (List ℕ) → Told StoreTold StoreFails → Told HooksTold (List ℕ) → World
 world_with told failing host store hooks = record { link = record { told = told; failing = failing }; host = host; store = store; hooks = hooks }
 
-module _ (asked : Option ℕ) (wake : Wake) (bytes buffer : List ℕ) (more : is_end wake.event ≡ false) (room : length buffer ≡ 2048) (front : bytes ≡ take (frame_len wake.event) buffer) where
-  woke_in : (told : LinkTold) (failing : List ℕ) (mid : Option LinkTold) (host : Told HostTold (List ℕ)) (store : Told StoreTold StoreFails) (hooks : Told HooksTold (List ℕ)) (coming : List Given) → told.coming ≡ coming → Comes asked told coming mid buffer wake
+module _ (asked : Option ℕ) (wake : Wake) (bytes buffer : List ℕ) (more : is_end wake.event ≡ false) (room : length buffer ≡ 2048)
+    (front : bytes ≡ take (frame_len wake.event) buffer) where
+  woke_in : (told : LinkTold) (failing : List ℕ) (mid : Option LinkTold) (host : Told HostTold (List ℕ)) (store : Told StoreTold StoreFails)
+      (hooks : Told HooksTold (List ℕ)) (coming : List Given)
+      → told.coming ≡ coming → Comes asked told coming mid buffer wake
       → Woke asked wake bytes (world_with told failing host store hooks) (world_from (told_from mid (Some failing)) (Some host) (Some store) (Some hooks))
   woke_in told failing mid host store hooks [] same comes = absurd (let bad : false ≡ true = sym more ∙ ap is_end comes.0 in cc)
   woke_in told failing mid host store hooks (given ∷ coming) same comes =
@@ -141,11 +153,23 @@ module _ (asked : Option ℕ) (wake : Wake) (bytes buffer : List ℕ) (more : is
         wake_is = wake_is;
         bytes_are = bytes_here ∙ ap (λ (w : Wake). take (frame_len w.event) given.bytes) wake_is;
         mid_is = ap (λ (l : Option LinkTold). world_from (told_from l (Some failing)) (Some host) (Some store) (Some hooks)) comes.2
-            ∙ (λ i. Some (world_with (record told { coming = rest_is i; waits = told.waits + 1; calls = told.calls ++ Waited asked (Some (record { wake = wake; bytes = sym bytes_here i })) ∷ [] }) failing host store hooks));
+            ∙
+            (λ i. Some
+            (world_with
+            (record
+            told {
+              coming = rest_is i;
+              waits = told.waits + 1;
+              calls = told.calls ++ Waited asked (Some (record { wake = wake; bytes = sym bytes_here i })) ∷ [];
+            })
+            failing host store hooks));
       }
 
-  woke_at : (link mid : Option LinkTold) (failing : Option (List ℕ)) (host : Option (Told HostTold (List ℕ))) (store : Option (Told StoreTold StoreFails)) (hooks : Option (Told HooksTold (List ℕ))) → Waits asked link mid buffer (woke wake)
-      → IfSome (world_from (told_from link failing) host store hooks) (λ world. Woke asked wake bytes world (world_from (told_from mid failing) host store hooks))
+  woke_at : (link mid : Option LinkTold) (failing : Option (List ℕ)) (host : Option (Told HostTold (List ℕ))) (store : Option (Told StoreTold StoreFails))
+      (hooks : Option (Told HooksTold (List ℕ)))
+      → Waits asked link mid buffer (woke wake)
+      → IfSome (world_from (told_from link failing) host store hooks)
+      (λ world. Woke asked wake bytes world (world_from (told_from mid failing) host store hooks))
   woke_at None mid failing host store hooks waits = tt
   woke_at (Some told) mid None host store hooks waits = tt
   woke_at (Some told) mid (Some failing) None store hooks waits = tt
@@ -157,10 +181,12 @@ module _ (asked : Option ℕ) (wake : Wake) (bytes buffer : List ℕ) (more : is
       → Adds (Some told.calls) (option_map (λ t. t.calls) mid) (Waited asked (Some (record { wake = wake; bytes = bytes })) ∷ [])
   wait_adds_in told mid [] comes = absurd (let bad : false ≡ true = sym more ∙ ap is_end comes.0 in cc)
   wait_adds_in told mid (given ∷ coming) comes =
-      subst (λ (l : Option LinkTold). Adds (Some told.calls) (option_map (λ t. t.calls) l) (Waited asked (Some (record { wake = wake; bytes = bytes })) ∷ [])) (sym comes.2)
+      subst (λ (l : Option LinkTold). Adds (Some told.calls) (option_map (λ t. t.calls) l) (Waited asked (Some (record { wake = wake; bytes = bytes })) ∷ []))
+      (sym comes.2)
       (ap (λ (bs : List ℕ). told.calls ++ Waited asked (Some (record { wake = wake; bytes = bs })) ∷ []) (sym (front ∙ comes.1)))
 
-  wait_adds : (link mid : Option LinkTold) → Waits asked link mid buffer (woke wake) → Adds (option_map (λ t. t.calls) link) (option_map (λ t. t.calls) mid) (Waited asked (Some (record { wake = wake; bytes = bytes })) ∷ [])
+  wait_adds : (link mid : Option LinkTold) → Waits asked link mid buffer (woke wake)
+      → Adds (option_map (λ t. t.calls) link) (option_map (λ t. t.calls) mid) (Waited asked (Some (record { wake = wake; bytes = bytes })) ∷ [])
   wait_adds None mid waits = tt
   wait_adds (Some told) mid waits = wait_adds_in told mid told.coming waits
 
@@ -169,26 +195,34 @@ module _ (asked : Option ℕ) (wake : Wake) (bytes buffer : List ℕ) (more : is
       subst (λ (m : Option World). IfSome (world_of old) (λ world. Woke asked wake bytes world m)) (same_but_link old mid waits.only)
       (woke_at old.link.told mid.link.told old.link.failing (told_of old.host) (told_of old.store) (told_of old.hooks) waits.told)
 
-  pub wait_tells : (old mid : Seen) → WaitsThere asked old mid buffer (woke wake) → Tells old mid (Link (Waited asked (Some (record { wake = wake; bytes = bytes }))) ∷ [])
-  wait_tells old mid waits = link_alone old mid asked (Some (record { wake = wake; bytes = bytes })) waits.only waits.begins (wait_adds old.link.told mid.link.told waits.told)
+  pub wait_tells : (old mid : Seen) → WaitsThere asked old mid buffer (woke wake)
+      → Tells old mid (Link (Waited asked (Some (record { wake = wake; bytes = bytes }))) ∷ [])
+  wait_tells old mid waits =
+      link_alone old mid asked (Some (record { wake = wake; bytes = bytes })) waits.only waits.begins (wait_adds old.link.told mid.link.told waits.told)
 
 -- ---- a wait that failed
 
-failed_adds : (asked : Option ℕ) (buffer : List ℕ) (link mid : Option LinkTold) → Waits asked link mid buffer wait_failed → Adds (option_map (λ t. t.calls) link) (option_map (λ t. t.calls) mid) (Waited asked None ∷ [])
+failed_adds : (asked : Option ℕ) (buffer : List ℕ) (link mid : Option LinkTold) → Waits asked link mid buffer wait_failed
+    → Adds (option_map (λ t. t.calls) link) (option_map (λ t. t.calls) mid) (Waited asked None ∷ [])
 failed_adds asked buffer None mid waits = tt
-failed_adds asked buffer (Some told) mid waits = subst (λ (l : Option LinkTold). Adds (Some told.calls) (option_map (λ t. t.calls) l) (Waited asked None ∷ [])) (sym waits) refl
+failed_adds asked buffer (Some told) mid waits =
+    subst (λ (l : Option LinkTold). Adds (Some told.calls) (option_map (λ t. t.calls) l) (Waited asked None ∷ [])) (sym waits) refl
 
-pub failed_wait_tells : (asked : Option ℕ) (buffer : List ℕ) (old mid : Seen) → WaitsThere asked old mid buffer wait_failed → Tells old mid (Link (Waited asked None) ∷ [])
-failed_wait_tells asked buffer old mid waits = link_alone old mid asked None waits.only waits.begins (failed_adds asked buffer old.link.told mid.link.told waits.told)
+pub failed_wait_tells : (asked : Option ℕ) (buffer : List ℕ) (old mid : Seen) → WaitsThere asked old mid buffer wait_failed
+    → Tells old mid (Link (Waited asked None) ∷ [])
+failed_wait_tells asked buffer old mid waits =
+    link_alone old mid asked None waits.only waits.begins (failed_adds asked buffer old.link.told mid.link.told waits.told)
 
 -- ---- a wait that wanted memory
 
 abbrev pub memory_wanted : Result Wake DeviceAnswer
 memory_wanted = Err Answer.NoMemory
 
-memory_adds : (asked : Option ℕ) (buffer : List ℕ) (link mid : Option LinkTold) → Waits asked link mid buffer memory_wanted → Adds (option_map (λ t. t.calls) link) (option_map (λ t. t.calls) mid) []
+memory_adds : (asked : Option ℕ) (buffer : List ℕ) (link mid : Option LinkTold) → Waits asked link mid buffer memory_wanted
+    → Adds (option_map (λ t. t.calls) link) (option_map (λ t. t.calls) mid) []
 memory_adds asked buffer None mid waits = tt
-memory_adds asked buffer (Some told) mid waits = subst (λ (l : Option LinkTold). Adds (Some told.calls) (option_map (λ t. t.calls) l) []) (sym waits) (sym (append-nil told.calls))
+memory_adds asked buffer (Some told) mid waits =
+    subst (λ (l : Option LinkTold). Adds (Some told.calls) (option_map (λ t. t.calls) l) []) (sym waits) (sym (append-nil told.calls))
 
 pub memory_wait_tells : (asked : Option ℕ) (buffer : List ℕ) (old mid : Seen) → WaitsThere asked old mid buffer memory_wanted → Tells old mid []
 memory_wait_tells asked buffer old mid waits = link_quiet old mid waits.only waits.begins (memory_adds asked buffer old.link.told mid.link.told waits.told)
@@ -201,16 +235,23 @@ pub record Gave (asked : Option ℕ) (wake : Wake) (link mid : Option LinkTold) 
   pub its_wake : given.wake ≡ wake
   pub adds : Adds (option_map (λ t. t.calls) link) (option_map (λ t. t.calls) mid) (Waited asked (Some given) ∷ [])
 
-gave_in : (asked : Option ℕ) (wake : Wake) (buffer : List ℕ) (told : LinkTold) (mid : Option LinkTold) (coming : List Given) → Comes asked told coming mid buffer wake → Gave asked wake (Some told) mid
+gave_in : (asked : Option ℕ) (wake : Wake) (buffer : List ℕ) (told : LinkTold) (mid : Option LinkTold) (coming : List Given)
+    → Comes asked told coming mid buffer wake → Gave asked wake (Some told) mid
 gave_in asked wake buffer told mid [] comes = record {
   given = record { wake = wake; bytes = [] };
   its_wake = refl;
-  adds = subst (λ (l : Option LinkTold). Adds (Some told.calls) (option_map (λ t. t.calls) l) (Waited asked (Some (record { wake = wake; bytes = [] })) ∷ [])) (sym comes.1) refl;
+  adds =
+      subst (λ (l : Option LinkTold). Adds (Some told.calls) (option_map (λ t. t.calls) l) (Waited asked (Some (record { wake = wake; bytes = [] })) ∷ []))
+      (sym comes.1) refl;
 }
 gave_in asked wake buffer told mid (given ∷ coming) comes = record {
   given = record { wake = wake; bytes = take (frame_len wake.event) given.bytes };
   its_wake = refl;
-  adds = subst (λ (l : Option LinkTold). Adds (Some told.calls) (option_map (λ t. t.calls) l) (Waited asked (Some (record { wake = wake; bytes = take (frame_len wake.event) given.bytes })) ∷ [])) (sym comes.2) refl;
+  adds =
+      subst
+      (λ (l : Option LinkTold). Adds (Some told.calls) (option_map (λ t. t.calls) l)
+      (Waited asked (Some (record { wake = wake; bytes = take (frame_len wake.event) given.bytes })) ∷ []))
+      (sym comes.2) refl;
 }
 
 pub gave : (asked : Option ℕ) (wake : Wake) (buffer : List ℕ) (link mid : Option LinkTold) → Waits asked link mid buffer (woke wake) → Gave asked wake link mid

@@ -31,19 +31,26 @@ use Rattle.daemon.proofs.CutOffs.{front_some, front_after, told_left, left_whole
 
 -- ---- what was foretold
 
-opens_foretold : (managed : List Managed) (specs : List IfSpec) (begin : Begin) (calls : List Call) (life : Life) (mets : List Met) (old mid opened : Option World)
+opens_foretold : (managed : List Managed) (specs : List IfSpec) (begin : Begin) (calls : List Call) (life : Life) (mets : List Met)
+    (old mid opened : Option World)
     → IfSome old (λ world. (begin ≡ world.link.told.begin) × (mid ≡ Some world))
     → IfSome mid (λ world. IsRun (run (opening_asks managed specs begin) world) calls life opened)
     → IfSome opened (λ world. foretold_turns managed life world ≡ mets)
     → IfSome old (λ world. IsLifeOf (opening_with begin calls life) mets (foretold_life managed specs world))
 opens_foretold managed specs begin calls life mets None mid opened p q r = tt
 opens_foretold managed specs begin calls life mets (Some world) mid opened p q r =
-    let ran : IsRun (run (opening_asks managed specs begin) world) calls life opened = subst (λ (m : Option World). IfSome m (λ world. IsRun (run (opening_asks managed specs begin) world) calls life opened)) p.1 q in
-    let rest : foretold_turns managed life (run (opening_asks managed specs begin) world).world ≡ mets = subst (λ (m : Option World). IfSome m (λ world. foretold_turns managed life world ≡ mets)) ran.world_is r in
+    let ran : IsRun (run (opening_asks managed specs begin) world) calls life opened =
+    subst (λ (m : Option World). IfSome m (λ world. IsRun (run (opening_asks managed specs begin) world) calls life opened)) p.1 q in
+    let rest : foretold_turns managed life (run (opening_asks managed specs begin) world).world ≡ mets =
+    subst (λ (m : Option World). IfSome m (λ world. foretold_turns managed life world ≡ mets)) ran.world_is r in
     let started : Begin → Ran Life = λ b. run (opening_asks managed specs b) world in
     record {
-      opening_is = (λ i. opening_with (sym p.0 i) (started (sym p.0 i)).calls (started (sym p.0 i)).result) ∙ (λ i. opening_with begin (sym ran.calls_are i) (sym ran.result_is i));
-      mets_are = (λ i. foretold_turns managed (started (sym p.0 i)).result (started (sym p.0 i)).world) ∙ (λ i. foretold_turns managed (sym ran.result_is i) (started begin).world) ∙ rest;
+      opening_is =
+          (λ i. opening_with (sym p.0 i) (started (sym p.0 i)).calls (started (sym p.0 i)).result)
+          ∙ (λ i. opening_with begin (sym ran.calls_are i) (sym ran.result_is i));
+      mets_are =
+          (λ i. foretold_turns managed (started (sym p.0 i)).result (started (sym p.0 i)).world)
+          ∙ (λ i. foretold_turns managed (sym ran.result_is i) (started begin).world) ∙ rest;
     }
 
 -- what is left is what was foretold at the beginning
@@ -54,10 +61,13 @@ leaves_foretold : (managed : List Managed) (specs : List IfSpec) (begin : Begin)
     → IfSome old (λ world. option_map left_in new ≡ Some (foretold_life managed specs world).left)
 leaves_foretold managed specs begin calls life None mid opened new p q r = tt
 leaves_foretold managed specs begin calls life (Some world) mid opened new p q r =
-    let ran : IsRun (run (opening_asks managed specs begin) world) calls life opened = subst (λ (m : Option World). IfSome m (λ world. IsRun (run (opening_asks managed specs begin) world) calls life opened)) p.1 q in
-    let rest : option_map left_in new ≡ Some (left_in (told_last managed life (run (opening_asks managed specs begin) world).world)) = subst (λ (m : Option World). IfSome m (λ world. option_map left_in new ≡ Some (left_in (told_last managed life world)))) ran.world_is r in
+    let ran : IsRun (run (opening_asks managed specs begin) world) calls life opened =
+    subst (λ (m : Option World). IfSome m (λ world. IsRun (run (opening_asks managed specs begin) world) calls life opened)) p.1 q in
+    let rest : option_map left_in new ≡ Some (left_in (told_last managed life (run (opening_asks managed specs begin) world).world)) =
+    subst (λ (m : Option World). IfSome m (λ world. option_map left_in new ≡ Some (left_in (told_last managed life world)))) ran.world_is r in
     let started : Begin → Ran Life = λ b. run (opening_asks managed specs b) world in
-    rest ∙ (λ i. Some (left_in (told_last managed (ran.result_is i) (started begin).world))) ∙ (λ i. Some (left_in (told_last managed (started (p.0 i)).result (started (p.0 i)).world)))
+    rest ∙ (λ i. Some (left_in (told_last managed (ran.result_is i) (started begin).world)))
+    ∙ (λ i. Some (left_in (told_last managed (started (p.0 i)).result (started (p.0 i)).world)))
 
 many_from : (managed : List Managed) (specs : List IfSpec) (begin : Begin) (calls : List Call) (life : Life) (turns : ℕ) (old mid opened : Option World)
     → IfSome old (λ world. (begin ≡ world.link.told.begin) × (mid ≡ Some world))
@@ -65,29 +75,35 @@ many_from : (managed : List Managed) (specs : List IfSpec) (begin : Begin) (call
     → IfSome opened (λ world. turns ≤ length world.link.told.coming) → IfSome old (λ world. turns ≤ length world.link.told.coming)
 many_from managed specs begin calls life turns None mid opened p q r = tt
 many_from managed specs begin calls life turns (Some world) mid opened p q r =
-    let ran : IsRun (run (opening_asks managed specs begin) world) calls life opened = subst (λ (m : Option World). IfSome m (λ world. IsRun (run (opening_asks managed specs begin) world) calls life opened)) p.1 q in
-    let here : turns ≤ length (run (opening_asks managed specs begin) world).world.link.told.coming = subst (λ (m : Option World). IfSome m (λ world. turns ≤ length world.link.told.coming)) ran.world_is r in
+    let ran : IsRun (run (opening_asks managed specs begin) world) calls life opened =
+    subst (λ (m : Option World). IfSome m (λ world. IsRun (run (opening_asks managed specs begin) world) calls life opened)) p.1 q in
+    let here : turns ≤ length (run (opening_asks managed specs begin) world).world.link.told.coming =
+    subst (λ (m : Option World). IfSome m (λ world. turns ≤ length world.link.told.coming)) ran.world_is r in
     subst (λ (c : List Given). turns ≤ length c) (run_coming (opening_asks managed specs begin) world) here
 
 -- as many wakes come as were allowed, from the beginning on
 pub many_before : (managed : List Managed) (specs : List IfSpec) (begin : Begin) (life : Life) (turns : ℕ) (old mid opened : Seen) (text_old text : List ℕ)
     → BeginsThere old mid (began begin) → MakesOpening managed specs begin life mid opened text_old text → AreManyTurns opened turns → AreManyTurns old turns
 many_before managed specs begin life turns old mid opened text_old text begins made many =
-    many_from managed specs begin made.calls life turns (world_of old) (world_of mid) (world_of opened) (begun_world begin old mid begins) made.did.foretold many
+    many_from managed specs begin made.calls life turns (world_of old) (world_of mid) (world_of opened)
+    (begun_world begin old mid begins) made.did.foretold many
 
 opening_written : (old new : Option (List ℕ)) (text : List ℕ) (lines : List Line) → WritesBytes old new text → Prints [] text lines → WritesLines old new lines
 opening_written None new text lines w p = w
 opening_written (Some written) new text lines w p = w ∙ ap (λ (x : List ℕ). Some (written ++ x)) p.appended
 
-module _ (managed : List Managed) (specs : List IfSpec) (begin : Begin) (life : Life) (old mid opened : Seen) (text_old text written : List ℕ) (out out_one : Option (List ℕ))
-    (begins : BeginsThere old mid (began begin)) (made : MakesOpening managed specs begin life mid opened text_old text) (empty : text_old ≡ []) (same : written ≡ text) where
+module _ (managed : List Managed) (specs : List IfSpec) (begin : Begin) (life : Life) (old mid opened : Seen) (text_old text written : List ℕ)
+    (out out_one : Option (List ℕ))
+    (begins : BeginsThere old mid (began begin)) (made : MakesOpening managed specs begin life mid opened text_old text) (empty : text_old ≡ [])
+    (same : written ≡ text) where
   lines_written : WritesBytes out out_one written → WritesLines out out_one (opening_lines (opening_with begin made.calls life))
   lines_written wrote =
       opening_written out out_one text (opening_lines (opening_with begin made.calls life)) (subst (λ (t : List ℕ). WritesBytes out out_one t) same wrote)
       (subst (λ (t : List ℕ). Prints t text (opening_lines (opening_with begin made.calls life))) empty made.lines)
 
   -- it was lived to its end
-  pub serves : (allowed : ℕ) (last : Life) (new : Seen) (out_two out_three : Option (List ℕ)) → WritesBytes out out_one written → Ends allowed managed life opened out_one last new out_two → KnowsChild last.hooks new
+  pub serves : (allowed : ℕ) (last : Life) (new : Seen) (out_two out_three : Option (List ℕ)) → WritesBytes out out_one written
+      → Ends allowed managed life opened out_one last new out_two → KnowsChild last.hooks new
       → WritesLines out_two out_three (closing_lines last) → Served allowed managed specs old new out out_three
   serves allowed last new out_two out_three wrote ends known closes = record {
     begun = record { begin = begin; seen = mid; begins = begins };
@@ -100,11 +116,17 @@ module _ (managed : List Managed) (specs : List IfSpec) (begin : Begin) (life : 
     last_is = subst (λ (l : Life). IsLast l ends.last) ends.after ends.last_is;
     within = ends.within;
     tells = tells_then mid opened new made.calls (turns_calls life ends.mets ++ ends.last) made.did.tells ends.tells;
-    written = lines_then out out_one out_three (opening_lines (opening_with begin made.calls life)) (flat_map turn_lines ends.mets ++ closing_lines (life_after life ends.mets)) (lines_written wrote)
+    written =
+        lines_then out out_one out_three (opening_lines (opening_with begin made.calls life))
+        (flat_map turn_lines ends.mets ++ closing_lines (life_after life ends.mets)) (lines_written wrote)
         (lines_then out_one out_two out_three (flat_map turn_lines ends.mets) (closing_lines (life_after life ends.mets)) ends.written
         (subst (λ (l : Life). WritesLines out_two out_three (closing_lines l)) ends.after closes));
-    foretold = opens_foretold managed specs begin made.calls life ends.mets (world_of old) (world_of mid) (world_of opened) (begun_world begin old mid begins) made.did.foretold ends.whole;
-    left = leaves_foretold managed specs begin made.calls life (world_of old) (world_of mid) (world_of opened) (world_of new) (begun_world begin old mid begins) made.did.foretold ends.left;
+    foretold =
+        opens_foretold managed specs begin made.calls life ends.mets (world_of old) (world_of mid) (world_of opened)
+        (begun_world begin old mid begins) made.did.foretold ends.whole;
+    left =
+        leaves_foretold managed specs begin made.calls life (world_of old) (world_of mid) (world_of opened) (world_of new)
+        (begun_world begin old mid begins) made.did.foretold ends.left;
     child = known ∙ ap (λ (l : Life). is_some l.hooks.child) ends.after;
   }
 
@@ -118,10 +140,13 @@ module _ (managed : List Managed) (specs : List IfSpec) (begin : Begin) (life : 
     opens = made.did.makes;
     written = front_some out out_to text_old written text (opening_lines (opening_with begin made.calls life)) empty made.lines same some;
     tells = made.did.tells;
-    foretold = opens_foretold managed specs begin made.calls life (told_left managed life (world_of opened)) (world_of old) (world_of mid) (world_of opened) (begun_world begin old mid begins) made.did.foretold (left_whole managed life (world_of opened));
+    foretold =
+        opens_foretold managed specs begin made.calls life (told_left managed life (world_of opened)) (world_of old) (world_of mid) (world_of opened)
+        (begun_world begin old mid begins) made.did.foretold (left_whole managed life (world_of opened));
   }
 
-  pub leaves_opening : (end : ServeEnd) (allowed : ℕ) (out_to : Option (List ℕ)) (a b : ℕ) → WritesSome out out_to written → HasServeCause end a b 0 0 → Leaves end allowed managed specs old opened out out_to
+  pub leaves_opening : (end : ServeEnd) (allowed : ℕ) (out_to : Option (List ℕ)) (a b : ℕ) → WritesSome out out_to written → HasServeCause end a b 0 0
+      → Leaves end allowed managed specs old opened out out_to
   leaves_opening ends.End allowed out_to a b some cause = absurd cause
   leaves_opening ends.TurnsOver allowed out_to a b some cause = absurd cause
   leaves_opening ends.LinkFault allowed out_to a b some cause = absurd (omega (arith, cause.1))
@@ -129,7 +154,8 @@ module _ (managed : List Managed) (specs : List IfSpec) (begin : Begin) (life : 
   leaves_opening ends.NoMemory allowed out_to a b some cause = inr (inl (cut_opening ends.NoMemory out_to some))
 
   -- it was cut off later
-  cut_life : (end : ServeEnd) (allowed : ℕ) (new : Seen) (out_to : Option (List ℕ)) → WritesBytes out out_one written → BreaksOff end allowed managed life opened new out_one out_to → CutLife end allowed managed specs old new out out_to
+  cut_life : (end : ServeEnd) (allowed : ℕ) (new : Seen) (out_to : Option (List ℕ)) → WritesBytes out out_one written
+      → BreaksOff end allowed managed life opened new out_one out_to → CutLife end allowed managed specs old new out out_to
   cut_life end allowed new out_to wrote breaks = record {
     begun = record { begin = begin; seen = mid; begins = begins };
     opening = opening_with begin made.calls life;
@@ -140,14 +166,19 @@ module _ (managed : List Managed) (specs : List IfSpec) (begin : Begin) (life : 
     opens = made.did.makes;
     cuts = breaks.cuts;
     turns = breaks.turns;
-    written = front_after out out_one out_to (opening_lines (opening_with begin made.calls life)) (flat_map turn_lines breaks.mets) (cut_lines (life_after life breaks.mets) breaks.at) (lines_written wrote) breaks.written;
+    written =
+        front_after out out_one out_to (opening_lines (opening_with begin made.calls life)) (flat_map turn_lines breaks.mets)
+        (cut_lines (life_after life breaks.mets) breaks.at) (lines_written wrote) breaks.written;
     tells = tells_then mid opened new made.calls (turns_calls life breaks.mets ++ breaks.calls) made.did.tells breaks.tells;
-    foretold = opens_foretold managed specs begin made.calls life (breaks.mets ++ turns_left breaks.at) (world_of old) (world_of mid) (world_of opened) (begun_world begin old mid begins) made.did.foretold breaks.whole;
+    foretold =
+        opens_foretold managed specs begin made.calls life (breaks.mets ++ turns_left breaks.at) (world_of old) (world_of mid) (world_of opened)
+        (begun_world begin old mid begins) made.did.foretold breaks.whole;
     within = breaks.within;
     all = breaks.all;
   }
 
-  pub leaves_life : (end : ServeEnd) (allowed : ℕ) (new : Seen) (out_to : Option (List ℕ)) → WritesBytes out out_one written → BreaksOff end allowed managed life opened new out_one out_to → Leaves end allowed managed specs old new out out_to
+  pub leaves_life : (end : ServeEnd) (allowed : ℕ) (new : Seen) (out_to : Option (List ℕ)) → WritesBytes out out_one written
+      → BreaksOff end allowed managed life opened new out_one out_to → Leaves end allowed managed specs old new out out_to
   leaves_life ends.End allowed new out_to wrote breaks = tt
   leaves_life ends.TurnsOver allowed new out_to wrote breaks = cut_life ends.TurnsOver allowed new out_to wrote breaks
   leaves_life ends.LinkFault allowed new out_to wrote breaks = inr (cut_life ends.LinkFault allowed new out_to wrote breaks)
@@ -155,7 +186,8 @@ module _ (managed : List Managed) (specs : List IfSpec) (begin : Begin) (life : 
   leaves_life ends.NoMemory allowed new out_to wrote breaks = inr (inr (cut_life ends.NoMemory allowed new out_to wrote breaks))
 
 -- it could not begin
-pub leaves_unbegun : (end : ServeEnd) (allowed : ℕ) (managed : List Managed) (specs : List IfSpec) (old new : Seen) (out : Option (List ℕ)) → BeginFails end old new → Leaves end allowed managed specs old new out out
+pub leaves_unbegun : (end : ServeEnd) (allowed : ℕ) (managed : List Managed) (specs : List IfSpec) (old new : Seen) (out : Option (List ℕ))
+    → BeginFails end old new → Leaves end allowed managed specs old new out out
 leaves_unbegun ends.End allowed managed specs old new out fails = absurd fails
 leaves_unbegun ends.TurnsOver allowed managed specs old new out fails = absurd fails
 leaves_unbegun ends.LinkFault allowed managed specs old new out fails = inl (refl, fails)
@@ -163,6 +195,8 @@ leaves_unbegun ends.WriteFault allowed managed specs old new out fails = absurd 
 leaves_unbegun ends.NoMemory allowed managed specs old new out fails = absurd fails
 
 -- memory was wanted in its opening, whose lines weren't written yet
-pub leaves_opened : (allowed : ℕ) (managed : List Managed) (specs : List IfSpec) (begin : Begin) (old mid new : Seen) (out : Option (List ℕ)) → BeginsThere old mid (began begin)
+pub leaves_opened : (allowed : ℕ) (managed : List Managed) (specs : List IfSpec) (begin : Begin) (old mid new : Seen) (out : Option (List ℕ))
+    → BeginsThere old mid (began begin)
     → HasBegun (opening_asks managed specs begin) mid new → Leaves ends.NoMemory allowed managed specs old new out out
-leaves_opened allowed managed specs begin old mid new out begins opens = inl (refl, record { begun = record { begin = begin; seen = mid; begins = begins }; opens = opens })
+leaves_opened allowed managed specs begin old mid new out begins opens =
+    inl (refl, record { begun = record { begin = begin; seen = mid; begins = begins }; opens = opens })

@@ -22,13 +22,15 @@ outlook_of outlook known = record { known = known; files = outlook.files; hooks 
 
 -- (no question comes of the news)
 abbrev pub step_of : Step → ClientStep
-step_of step = record { client = step.core; sends = sends_in step.outs; reports = []; jobs = map job_of step.jobs.items }
+step_of step =
+    record { client = step.core; sends = sends_in step.outs; reports = []; jobs = map job_of step.jobs.items }
 
 -- what a step asks was done, whichever rows were known before it
 abbrev pub ActsAs : List Managed → Outlook → Step → Life → (old new : Seen) → (text_old text_new : List ℕ) → Type 0
 ActsAs managed outlook step life old new text_old text_new =
     (known : Option (List HostRow)) → WasKnown outlook.pending (rows_of step.core) known
-    → Does (acting managed (outlook_of outlook known) (step_of step) outlook.moment outlook.stop) (life_of life) old new text_old text_new
+    → Does (acting managed (outlook_of outlook known) (step_of step) outlook.moment outlook.stop)
+    (life_of life) old new text_old text_new
 
 -- it was begun, whichever rows were known before it
 abbrev pub BeginsActing : List Managed → Outlook → Step → (old new : Seen) → Type 0

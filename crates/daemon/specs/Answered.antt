@@ -35,43 +35,66 @@ FitsChange (Remove row) = Unit {0}
 FitsChange (Add row) = IsRow row
 
 -- a device tells one call more; where it tells which calls fail, its answer and what it tells then are determined
-pub record By {T F C B : Type 0} (calls_in : T → List C) (call : C) (answer : B) (foretold : Told T F → B) (next : T → T)
+pub record By {T F C B : Type 0} (calls_in : T → List C) (call : C) (answer : B) (foretold : Told T F → B)
+    (next : T → T)
     (failing : Option F) (old new : Option T) : Type 0 where
   pub adds : Adds (option_map calls_in old) (option_map calls_in new) (call ∷ [])
-  pub foretold_is : IfSome (told_from old failing) (λ device. (answer ≡ foretold device) × (new ≡ Some (next device.told)))
+  pub foretold_is : IfSome (told_from old failing)
+      (λ device. (answer ≡ foretold device) × (new ≡ Some (next device.told)))
 
 abbrev pub OfferedBy : ℕ → List ℕ → Bool → Option (List ℕ) → Option LinkTold → Option LinkTold → Type 0
-OfferedBy iface frame taken = By (λ told. told.calls) (Offered iface frame taken) taken (λ link. not (fails_send link)) (offered iface frame taken)
+OfferedBy iface frame taken =
+    By (λ told. told.calls) (Offered iface frame taken) taken (λ link. not (fails_send link))
+    (offered iface frame taken)
 
 abbrev pub ListedBy : Option (List HostRow) → Option (List ℕ) → Option HostTold → Option HostTold → Type 0
-ListedBy rows = By (λ told. told.calls) (Listed rows) rows (λ host. if fails_host host then None else Some host.told.rows) (λ told. host_answered (Listed rows) told.rows told)
+ListedBy rows =
+    By (λ told. told.calls) (Listed rows) rows (λ host. if fails_host host then None else Some host.told.rows)
+    (λ told. host_answered (Listed rows) told.rows told)
 
 abbrev pub ChangedBy : HostChange → Bool → Option (List ℕ) → Option HostTold → Option HostTold → Type 0
-ChangedBy change done = By (λ told. told.calls) (change_call change done) done (λ host. not (fails_host host)) (host_with change done)
+ChangedBy change done =
+    By (λ told. told.calls) (change_call change done) done (λ host. not (fails_host host)) (host_with change done)
 
 abbrev pub AsidesBy : Option (List (List ℕ)) → Option StoreFails → Option StoreTold → Option StoreTold → Type 0
-AsidesBy names = By (λ told. told.calls) (ListedAsides names) names (λ store. if fails_store store then None else Some (asides store.told.files)) (λ told. store_answered (ListedAsides names) told.files told)
+AsidesBy names =
+    By (λ told. told.calls) (ListedAsides names) names
+    (λ store. if fails_store store then None else Some (asides store.told.files))
+    (λ told. store_answered (ListedAsides names) told.files told)
 
 abbrev pub ReadBy : List ℕ → Reading → Option StoreFails → Option StoreTold → Option StoreTold → Type 0
-ReadBy name reading = By (λ told. told.calls) (ReadFile name reading) reading (λ store. if fails_store store then Unread else reading_of (file_at name store.told.files)) (λ told. store_answered (ReadFile name reading) told.files told)
+ReadBy name reading =
+    By (λ told. told.calls) (ReadFile name reading) reading
+    (λ store. if fails_store store then Unread else reading_of (file_at name store.told.files))
+    (λ told. store_answered (ReadFile name reading) told.files told)
 
 abbrev pub WrittenBy : (name bytes : List ℕ) → Bool → Option StoreFails → Option StoreTold → Option StoreTold → Type 0
-WrittenBy name bytes done = By (λ told. told.calls) (WroteAside name bytes done) done (λ store. not (fails_store store)) (store_written name bytes done)
+WrittenBy name bytes done =
+    By (λ told. told.calls) (WroteAside name bytes done) done (λ store. not (fails_store store))
+    (store_written name bytes done)
 
 abbrev pub SyncedBy : List ℕ → Bool → Option StoreFails → Option StoreTold → Option StoreTold → Type 0
-SyncedBy name done = By (λ told. told.calls) (SyncedAside name done) done (λ store. not (fails_store store)) (store_synced name done)
+SyncedBy name done =
+    By (λ told. told.calls) (SyncedAside name done) done (λ store. not (fails_store store)) (store_synced name done)
 
 abbrev pub RenamedBy : List ℕ → Bool → Option StoreFails → Option StoreTold → Option StoreTold → Type 0
-RenamedBy name done = By (λ told. told.calls) (RenamedAside name done) done (λ store. not (fails_renaming name store)) (store_renamed name done)
+RenamedBy name done =
+    By (λ told. told.calls) (RenamedAside name done) done (λ store. not (fails_renaming name store))
+    (store_renamed name done)
 
 abbrev pub RemovedBy : List ℕ → Bool → Option StoreFails → Option StoreTold → Option StoreTold → Type 0
-RemovedBy name done = By (λ told. told.calls) (RemovedFile name done) done (λ store. not (fails_store store)) (store_without name done)
+RemovedBy name done =
+    By (λ told. told.calls) (RemovedFile name done) done (λ store. not (fails_store store)) (store_without name done)
 
 abbrev pub SettledBy : Bool → Option StoreFails → Option StoreTold → Option StoreTold → Type 0
-SettledBy done = By (λ told. told.calls) (SettledFiles done) done (λ store. not (fails_store store)) (λ told. store_answered (SettledFiles done) told.files told)
+SettledBy done =
+    By (λ told. told.calls) (SettledFiles done) done (λ store. not (fails_store store))
+    (λ told. store_answered (SettledFiles done) told.files told)
 
 abbrev pub StartedBy : Job → Bool → Option (List ℕ) → Option HooksTold → Option HooksTold → Type 0
-StartedBy job done = By (λ told. told.calls) (Started job done) done (λ hooks. not (fails_start hooks)) (hooks_answered (Started job done))
+StartedBy job done =
+    By (λ told. told.calls) (Started job done) done (λ hooks. not (fails_start hooks))
+    (hooks_answered (Started job done))
 
 abbrev pub PolledBy : Option Poll → Option (List ℕ) → Option HooksTold → Option HooksTold → Type 0
 PolledBy answer = By (λ told. told.calls) (Polled answer) answer (λ hooks. next_answer hooks.told.polls) polled

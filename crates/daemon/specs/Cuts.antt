@@ -46,14 +46,15 @@ turns_left (Between rest) = rest
 turns_left (InTurn met rest) = met ∷ rest
 turns_left AtEnd = []
 
--- What was asked after the turns whose lines stand written whole, and where the life was cut off: between two turns, since as
--- many were handled as were allowed, or the next wait failed, or memory was wanted in the next turn, of which a front was asked;
--- in the lines of a turn, or in those after the last one, since writing failed or memory was wanted.
+-- What was asked after the turns whose lines stand written whole, and where the life was cut off: between two turns,
+-- since as many were handled as were allowed, or the next wait failed, or memory was wanted in the next turn, of which
+-- a front was asked; in the lines of a turn, or in those after the last one, since writing failed or memory was wanted.
 abbrev pub CutsAt : ServeEnd → List Managed → Life → CutAt → List Call → Type 0
 CutsAt ends.End managed life at calls = ⊥
 CutsAt ends.TurnsOver managed life (Between rest) calls = (calls ≡ []) × (is_over life ≡ false)
 CutsAt ends.TurnsOver managed life other calls = ⊥
-CutsAt ends.LinkFault managed life (Between rest) calls = (calls ≡ Link (Waited (until life) None) ∷ []) × (is_over life ≡ false)
+CutsAt ends.LinkFault managed life (Between rest) calls =
+    (calls ≡ Link (Waited (until life) None) ∷ []) × (is_over life ≡ false)
 CutsAt ends.LinkFault managed life other calls = ⊥
 CutsAt ends.WriteFault managed life (Between rest) calls = ⊥
 CutsAt ends.WriteFault managed life (InTurn met rest) calls = calls ≡ turn_calls life met
@@ -62,7 +63,8 @@ CutsAt ends.NoMemory managed life (Between rest) calls = FrontOfTurn managed lif
 CutsAt ends.NoMemory managed life (InTurn met rest) calls = calls ≡ turn_calls life met
 CutsAt ends.NoMemory managed life AtEnd calls = IsLast life calls
 
--- the wakes asked for after the turns whose lines stand written whole: that of a turn that was begun, or a wait that brought none
+-- the wakes asked for after the turns whose lines stand written whole: that of a turn that was begun, or a wait that
+-- brought none
 abbrev pub wakes_asked : CutAt → List Call → ℕ
 wakes_asked (Between rest) [] = 0
 wakes_asked (Between rest) (call ∷ calls) = 1
@@ -75,7 +77,8 @@ HandledAll ends.TurnsOver handled allowed = handled ≡ allowed
 HandledAll end handled allowed = Unit {0}
 
 -- turns were handled and their lines written whole, and then the life was cut off
-pub record BreaksOff (end : ServeEnd) (allowed : ℕ) (managed : List Managed) (from : Life) (old new : Seen) (out_from out_to : Option (List ℕ)) : Type 0 where
+pub record BreaksOff (end : ServeEnd) (allowed : ℕ) (managed : List Managed) (from : Life) (old new : Seen)
+    (out_from out_to : Option (List ℕ)) : Type 0 where
   pub mets : List Met
   pub at : CutAt
   pub calls : List Call
@@ -88,7 +91,8 @@ pub record BreaksOff (end : ServeEnd) (allowed : ℕ) (managed : List Managed) (
   pub all : HandledAll end (length mets) allowed
 
 -- a life was cut off in the lines of its opening
-pub record CutOpening (end : ServeEnd) (managed : List Managed) (specs : List IfSpec) (old new : Seen) (out_from out_to : Option (List ℕ)) : Type 0 where
+pub record CutOpening (end : ServeEnd) (managed : List Managed) (specs : List IfSpec) (old new : Seen)
+    (out_from out_to : Option (List ℕ)) : Type 0 where
   pub begun : Begun old
   pub opening : OpeningMet
   pub rest : List Met
@@ -99,7 +103,8 @@ pub record CutOpening (end : ServeEnd) (managed : List Managed) (specs : List If
   pub foretold : IsForetold managed specs old opening rest
 
 -- a life was cut off after its opening and some turns, whose lines stand written whole
-pub record CutLife (end : ServeEnd) (allowed : ℕ) (managed : List Managed) (specs : List IfSpec) (old new : Seen) (out_from out_to : Option (List ℕ)) : Type 0 where
+pub record CutLife (end : ServeEnd) (allowed : ℕ) (managed : List Managed) (specs : List IfSpec) (old new : Seen)
+    (out_from out_to : Option (List ℕ)) : Type 0 where
   pub begun : Begun old
   pub opening : OpeningMet
   pub mets : List Met
@@ -109,7 +114,8 @@ pub record CutLife (end : ServeEnd) (allowed : ℕ) (managed : List Managed) (sp
   pub opens : IsOpening managed specs opening
   pub cuts : CutsAt end managed (life_after opening.life mets) at calls
   pub turns : AreTurns managed opening.life (mets ++ cut_turns at)
-  pub written : WritesFront out_from out_to (opening_lines opening ++ flat_map turn_lines mets) (cut_lines (life_after opening.life mets) at)
+  pub written : WritesFront out_from out_to (opening_lines opening ++ flat_map turn_lines mets)
+      (cut_lines (life_after opening.life mets) at)
   pub tells : Tells begun.seen new (opening.calls ++ (turns_calls opening.life mets ++ calls))
   pub foretold : IsForetold managed specs old opening (mets ++ turns_left at)
   pub within : length mets + wakes_asked at calls ≤ allowed
@@ -134,13 +140,20 @@ pub record BeginsOpening (managed : List Managed) (specs : List IfSpec) (old new
   pub begun : Begun old
   pub opens : HasBegun (opening_asks managed specs begun.begin) begun.seen new
 
--- What stands written, and what was asked, where so many turns were allowed. Where beginning failed, or memory was wanted before
--- the opening's lines were written, nothing was written.
-abbrev pub Leaves : ServeEnd → (allowed : ℕ) → List Managed → List IfSpec → Seen → Seen → Option (List ℕ) → Option (List ℕ) → Type 0
+-- What stands written, and what was asked, where so many turns were allowed. Where beginning failed, or memory was
+-- wanted before the opening's lines were written, nothing was written.
+abbrev pub Leaves : ServeEnd → (allowed : ℕ) → List Managed → List IfSpec → Seen → Seen → Option (List ℕ)
+    → Option (List ℕ) → Type 0
 Leaves ends.End allowed managed specs old new out_from out_to = Unit {0}
-Leaves ends.TurnsOver allowed managed specs old new out_from out_to = CutLife ends.TurnsOver allowed managed specs old new out_from out_to
-Leaves ends.LinkFault allowed managed specs old new out_from out_to = ((out_to ≡ out_from) × FailsToBegin old new) ⊎ CutLife ends.LinkFault allowed managed specs old new out_from out_to
-Leaves ends.WriteFault allowed managed specs old new out_from out_to = CutOpening ends.WriteFault managed specs old new out_from out_to ⊎ CutLife ends.WriteFault allowed managed specs old new out_from out_to
+Leaves ends.TurnsOver allowed managed specs old new out_from out_to =
+    CutLife ends.TurnsOver allowed managed specs old new out_from out_to
+Leaves ends.LinkFault allowed managed specs old new out_from out_to =
+    ((out_to ≡ out_from) × FailsToBegin old new) ⊎ CutLife ends.LinkFault allowed managed specs old new out_from out_to
+Leaves ends.WriteFault allowed managed specs old new out_from out_to =
+    CutOpening ends.WriteFault managed specs old new out_from out_to
+    ⊎ CutLife ends.WriteFault allowed managed specs old new out_from out_to
 Leaves ends.NoMemory allowed managed specs old new out_from out_to =
     ((out_to ≡ out_from) × BeginsOpening managed specs old new)
-    ⊎ (CutOpening ends.NoMemory managed specs old new out_from out_to ⊎ CutLife ends.NoMemory allowed managed specs old new out_from out_to)
+    ⊎
+    (CutOpening ends.NoMemory managed specs old new out_from out_to
+    ⊎ CutLife ends.NoMemory allowed managed specs old new out_from out_to)

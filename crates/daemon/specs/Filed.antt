@@ -9,9 +9,9 @@ use Rattle.device_calls.specs.Faults.{CountsEach}
 use Rattle.turn_model.specs.LifeFronts.{FrontOfLife}
 use Rattle.file_evidence.specs.WholeFiles.{FilesStayWhole}
 
--- The calls of a life up to a moment were made. The store answered its own, and no other, and left its files as it answered; at
--- each moment of them, over a sound store, each file was whole, whether or not it is told which calls fail. Each device counted
--- those of its own that failed.
+-- The calls of a life up to a moment were made. The store answered its own, and no other, and left its files as it
+-- answered; at each moment of them, over a sound store, each file was whole, whether or not it is told which calls
+-- fail. Each device counted those of its own that failed.
 pub record LeavesFiled (managed : List Managed) (specs : List IfSpec) (old new : Seen) : Type 0 where
   pub calls : List Call
   pub front : FrontOfLife managed specs calls

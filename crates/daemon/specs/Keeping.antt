@@ -38,18 +38,22 @@ may_differ Resolver touched = has_resolver touched
 
 -- a file holds what it is to hold, where it is known what it holds
 abbrev pub IsKept : List Iface → KeptFile → Type 0
-IsKept ifaces file = is_unknown file.known ≡ false → is_settled file.keeps file.known (wanted_in ifaces file.keeps) ≡ true
+IsKept ifaces file =
+    is_unknown file.known ≡ false → is_settled file.keeps file.known (wanted_in ifaces file.keeps) ≡ true
 
 abbrev pub AreKept : List Iface → List KeptFile → Type 0
 AreKept ifaces files = AllByRecursion (IsKept ifaces) files
 
 -- the same of the files whose content can't have changed
 abbrev pub AreKeptBut : Touched → List Iface → List KeptFile → Type 0
-AreKeptBut touched ifaces files = AllByRecursion (λ file. may_differ file.keeps touched ≡ false → IsKept ifaces file) files
+AreKeptBut touched ifaces files =
+    AllByRecursion (λ file. may_differ file.keeps touched ≡ false → IsKept ifaces file) files
 
 -- a file is brought to what it is to hold
-abbrev pub KeepsFile : List Iface → (old new : KeptFile) → (seen_old seen_new : Seen) → (text_old text_new : List ℕ) → Type 0
-KeepsFile ifaces old new seen_old seen_new text_old text_new = Does (keeping_one (wanted_in ifaces old.keeps) old) new seen_old seen_new text_old text_new
+abbrev pub KeepsFile : List Iface → (old new : KeptFile) → (seen_old seen_new : Seen) → (text_old text_new : List ℕ)
+    → Type 0
+KeepsFile ifaces old new seen_old seen_new text_old text_new =
+    Does (keeping_one (wanted_in ifaces old.keeps) old) new seen_old seen_new text_old text_new
 
 -- it was begun to bring a file to what it is to hold
 abbrev pub BeginsFile : List Iface → KeptFile → (old new : Seen) → Type 0

@@ -7,7 +7,16 @@ use Rattle.daemon.specs.Keeping.{AreKept}
 use Rattle.daemon.specs.Tables.{known_in}
 
 abbrev pub life_of : Life → model.Life
-life_of life = record { client = life.core; known = known_in life.table (rows_of life.core); files = life.files; hooks = life.hooks; now = life.moment; stop = life.stop; unsent = life.unsent }
+life_of life =
+    record {
+      client = life.core;
+      known = known_in life.table (rows_of life.core);
+      files = life.files;
+      hooks = life.hooks;
+      now = life.moment;
+      stop = life.stop;
+      unsent = life.unsent;
+    }
 
 abbrev pub IsBelowEnd : Option ℕ → Type 0
 IsBelowEnd None = Unit {0}

@@ -15,14 +15,16 @@ use Rattle.turn_model.specs.Loading.{FilesLoaded, duid_file, reading_if, loading
 use Rattle.daemon.specs.declared.files.Loaded.{Loaded}
 
 -- the files of one interface's leases were read, where its protocols run
-pub record LoadsOne (managed : Managed) (duid : List ℕ) (one : Loaded) (old new : Seen) (text_old text_new : List ℕ) : Type 0 where
+pub record LoadsOne (managed : Managed) (duid : List ℕ) (one : Loaded) (old new : Seen)
+    (text_old text_new : List ℕ) : Type 0 where
   pub loaded : model.Loaded
   pub does : Does (loading_one managed) loaded old new text_old text_new
   pub beginning_is : code.beginning_of one.beginning ≡ beginning_of duid loaded
   pub files_are : option_to_list one.file4 ++ option_to_list one.file6 ≡ files_by loaded
 
 -- those of all interfaces were read, after other files
-pub record LoadsLeases (managed : List Managed) (duid : List ℕ) (before : List KeptFile) (beginnings : List Beginning) (files : List KeptFile) (old new : Seen) (text_old text_new : List ℕ) : Type 0 where
+pub record LoadsLeases (managed : List Managed) (duid : List ℕ) (before : List KeptFile) (beginnings : List Beginning)
+    (files : List KeptFile) (old new : Seen) (text_old text_new : List ℕ) : Type 0 where
   pub loaded : List model.Loaded
   pub does : Does (loading managed) loaded old new text_old text_new
   pub beginnings_are : beginnings ≡ map (beginning_of duid) loaded
@@ -33,7 +35,8 @@ abbrev pub loading_own : List Managed → Asks (List model.Loaded)
 loading_own managed = after (reading_if (some_need_duid managed) duid_file) (λ duid. loading managed)
 
 -- the DUID was read, where some interface needs it, and the files of leases
-pub record LoadsOwn (managed : List Managed) (beginnings : List Beginning) (files : List KeptFile) (old new : Seen) (text_old text_new : List ℕ) : Type 0 where
+pub record LoadsOwn (managed : List Managed) (beginnings : List Beginning) (files : List KeptFile) (old new : Seen)
+    (text_old text_new : List ℕ) : Type 0 where
   pub duid : Option Reading
   pub leases : List model.Loaded
   pub mid : Seen
@@ -44,7 +47,8 @@ pub record LoadsOwn (managed : List Managed) (beginnings : List Beginning) (file
   pub files_are : files ≡ file_with (Duid (host_duid managed duid)) duid_file duid ++ flat_map files_by leases
 
 -- all files that a life keeps were read
-pub record LoadsAll (managed : List Managed) (beginnings : List Beginning) (files : List KeptFile) (old new : Seen) (text_old text_new : List ℕ) : Type 0 where
+pub record LoadsAll (managed : List Managed) (beginnings : List Beginning) (files : List KeptFile) (old new : Seen)
+    (text_old text_new : List ℕ) : Type 0 where
   pub loaded : FilesLoaded
   pub does : Does (loading_files managed) loaded old new text_old text_new
   pub beginnings_are : beginnings ≡ beginnings_of managed loaded

@@ -25,16 +25,19 @@ pub record IsLifeOf (opening : OpeningMet) (mets : List Met) (life : ForetoldLif
 
 -- where all devices tell, the opening and the turns are those that they foretold
 abbrev pub IsForetold : List Managed → List IfSpec → Seen → OpeningMet → List Met → Type 0
-IsForetold managed specs old opening mets = IfSome (world_of old) (λ world. IsLifeOf opening mets (foretold_life managed specs world))
+IsForetold managed specs old opening mets =
+    IfSome (world_of old) (λ world. IsLifeOf opening mets (foretold_life managed specs world))
 
 -- and what they tell then of the frames offered, the host and the store is what they foretold
 abbrev pub LeavesForetold : List Managed → List IfSpec → Seen → Seen → Type 0
-LeavesForetold managed specs old new = IfSome (world_of old) (λ world. option_map left_in (world_of new) ≡ Some (foretold_life managed specs world).left)
+LeavesForetold managed specs old new =
+    IfSome (world_of old) (λ world. option_map left_in (world_of new) ≡ Some (foretold_life managed specs world).left)
 
--- A life was lived to its end: it was begun once, its opening and turns asked what they are to ask, the devices that tell their
--- calls tell these and no other, and its lines were written. A hook's child runs then where the last turn left one. It took no
--- more wakes than were allowed.
-pub record Served (allowed : ℕ) (managed : List Managed) (specs : List IfSpec) (old new : Seen) (out_from out_to : Option (List ℕ)) : Type 0 where
+-- A life was lived to its end: it was begun once, its opening and turns asked what they are to ask, the devices that
+-- tell their calls tell these and no other, and its lines were written. A hook's child runs then where the last turn
+-- left one. It took no more wakes than were allowed.
+pub record Served (allowed : ℕ) (managed : List Managed) (specs : List IfSpec) (old new : Seen)
+    (out_from out_to : Option (List ℕ)) : Type 0 where
   pub begun : Begun old
   pub opening : OpeningMet
   pub mets : List Met

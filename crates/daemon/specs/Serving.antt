@@ -21,13 +21,15 @@ abbrev pub opening_with : Begin → List Call → Life → OpeningMet
 opening_with begin calls life = record { begin = begin; calls = calls; life = life }
 
 -- a life was opened: the calls of its opening were made, and its lines were appended
-pub record MakesOpening (managed : List Managed) (specs : List IfSpec) (begin : Begin) (to : Life) (old new : Seen) (text_old text_new : List ℕ) : Type 0 where
+pub record MakesOpening (managed : List Managed) (specs : List IfSpec) (begin : Begin) (to : Life) (old new : Seen)
+    (text_old text_new : List ℕ) : Type 0 where
   pub calls : List Call
   pub did : Did (opening_asks managed specs begin) calls to old new
   pub lines : Prints text_old text_new (opening_lines (opening_with begin calls to))
 
 -- a wake was handled: the calls of its turn were made, and its lines were appended
-pub record MakesTurn (managed : List Managed) (from : Life) (wake : Wake) (bytes : List ℕ) (to : Life) (old new : Seen) (text_old text_new : List ℕ) : Type 0 where
+pub record MakesTurn (managed : List Managed) (from : Life) (wake : Wake) (bytes : List ℕ) (to : Life) (old new : Seen)
+    (text_old text_new : List ℕ) : Type 0 where
   pub calls : List Call
   pub did : Did (turn_asks managed from wake bytes) calls to old new
   pub lines : Prints text_old text_new (turn_lines (met_with wake bytes calls to))
@@ -37,7 +39,8 @@ abbrev pub told_last : List Managed → Life → World → World
 told_last managed life world = told_after managed life world world.link.told.coming
 
 -- the turns met are the first of those that were foretold, and the rest is still to come
-pub record AreFirst (managed : List Managed) (from : Life) (before : World) (mets : List Met) (to : Life) (new : Seen) : Type 0 where
+pub record AreFirst (managed : List Managed) (from : Life) (before : World) (mets : List Met) (to : Life)
+    (new : Seen) : Type 0 where
   pub then_told : World
   pub tells : world_of new ≡ Some then_told
   pub turns : foretold_turns managed from before ≡ mets ++ foretold_turns managed to then_told
@@ -50,10 +53,12 @@ AreWhole managed from old mets = IfSome (world_of old) (λ world. foretold_turns
 
 -- what the devices leave is what they foretold
 abbrev pub LeavesTold : List Managed → Life → Seen → Seen → Type 0
-LeavesTold managed from old new = IfSome (world_of old) (λ world. option_map left_in (world_of new) ≡ Some (left_in (told_last managed from world)))
+LeavesTold managed from old new =
+    IfSome (world_of old) (λ world. option_map left_in (world_of new) ≡ Some (left_in (told_last managed from world)))
 
 -- a life goes on after these turns
-pub record Goes (managed : List Managed) (from : Life) (old : Seen) (out_from : Option (List ℕ)) (to : Life) (new : Seen) (out_to : Option (List ℕ)) (mets : List Met) : Type 0 where
+pub record Goes (managed : List Managed) (from : Life) (old : Seen) (out_from : Option (List ℕ)) (to : Life)
+    (new : Seen) (out_to : Option (List ℕ)) (mets : List Met) : Type 0 where
   pub turns : AreTurns managed from mets
   pub after : to ≡ life_after from mets
   pub written : WritesLines out_from out_to (flat_map turn_lines mets)
@@ -61,7 +66,8 @@ pub record Goes (managed : List Managed) (from : Life) (old : Seen) (out_from : 
   pub foretold : IfSome (world_of old) (λ world. AreFirst managed from world mets to new)
 
 -- a life is over after these turns, and after no more wakes than were allowed
-pub record Ends (allowed : ℕ) (managed : List Managed) (from : Life) (old : Seen) (out_from : Option (List ℕ)) (to : Life) (new : Seen) (out_to : Option (List ℕ)) : Type 0 where
+pub record Ends (allowed : ℕ) (managed : List Managed) (from : Life) (old : Seen) (out_from : Option (List ℕ))
+    (to : Life) (new : Seen) (out_to : Option (List ℕ)) : Type 0 where
   pub mets : List Met
   pub turns : AreTurns managed from mets
   pub after : to ≡ life_after from mets

@@ -20,4 +20,5 @@ WritesLines (Some written) new lines = new ≡ Some (written ++ lines_text lines
 -- lines were written whole, and then a front of the bytes of further lines
 abbrev pub WritesFront : Option (List ℕ) → Option (List ℕ) → List Line → List Line → Type 0
 WritesFront None new whole lines = new ≡ None
-WritesFront (Some written) new whole lines = (n : ℕ) × (new ≡ Some ((written ++ lines_text whole) ++ take n (lines_text lines)))
+WritesFront (Some written) new whole lines =
+    (n : ℕ) × (new ≡ Some ((written ++ lines_text whole) ++ take n (lines_text lines)))

@@ -39,7 +39,8 @@ changes_by diff = map Remove (reverse diff.gone.items) ++ map Add diff.come.item
 -- the changes were made, whichever rows were known before them
 abbrev pub MakesChanges : List HostChange → Table → (old new : Seen) → (text_old text_new : List ℕ) → Type 0
 MakesChanges made table old new text_old text_new =
-    (known : List HostRow) → Does (changing made (Some known)) (known_in table (after_changes made known)) old new text_old text_new
+    (known : List HostRow)
+    → Does (changing made (Some known)) (known_in table (after_changes made known)) old new text_old text_new
 
 -- the changes from known rows to wanted ones were made, whichever these are that differ so
 abbrev pub Updates : Diff → Table → (old new : Seen) → (text_old text_new : List ℕ) → Type 0
@@ -48,7 +49,8 @@ Updates diff table old new text_old text_new =
     → Does (changing (changes known wanted) (Some known)) (known_in table wanted) old new text_old text_new
 
 -- the host calls of a turn were made, whichever rows were known before it
-abbrev pub Hosts : List Managed → Pending → (wanted : List HostRow) → Table → (old new : Seen) → (text_old text_new : List ℕ) → Type 0
+abbrev pub Hosts : List Managed → Pending → (wanted : List HostRow) → Table → (old new : Seen)
+    → (text_old text_new : List ℕ) → Type 0
 Hosts managed pending wanted table old new text_old text_new =
     (known : Option (List HostRow)) → WasKnown pending wanted known
     → Does (hosting managed wanted known) (known_in table wanted) old new text_old text_new
@@ -60,7 +62,9 @@ BeginsChanges made old new = (known : List HostRow) → HasBegun (changing made 
 
 abbrev pub BeginsUpdate : Diff → (old new : Seen) → Type 0
 BeginsUpdate diff old new =
-    (known wanted : List HostRow) → InRowOrder known → InRowOrder wanted → Leads diff known wanted → HasBegun (changing (changes known wanted) (Some known)) old new
+    (known wanted : List HostRow) → InRowOrder known → InRowOrder wanted → Leads diff known wanted
+    → HasBegun (changing (changes known wanted) (Some known)) old new
 
 abbrev pub BeginsHosts : List Managed → Pending → (wanted : List HostRow) → (old new : Seen) → Type 0
-BeginsHosts managed pending wanted old new = (known : Option (List HostRow)) → WasKnown pending wanted known → HasBegun (hosting managed wanted known) old new
+BeginsHosts managed pending wanted old new =
+    (known : Option (List HostRow)) → WasKnown pending wanted known → HasBegun (hosting managed wanted known) old new

@@ -36,7 +36,8 @@ pub record BeginsThere (old new : Seen) (result : Result Begin Failed) : Type 0 
   pub counted : new.waiting.begins ≡ count_after old.waiting.begins
   pub only : OnlyLink old new
 
-pub record WaitsThere (until : Option ℕ) (old new : Seen) (buffer : List ℕ) (result : Result Wake DeviceAnswer) : Type 0 where
+pub record WaitsThere (until : Option ℕ) (old new : Seen) (buffer : List ℕ)
+    (result : Result Wake DeviceAnswer) : Type 0 where
   pub told : Waits until old.link.told new.link.told buffer result
   pub begins : new.waiting.begins ≡ old.waiting.begins
   pub only : OnlyLink old new

@@ -12,11 +12,14 @@ use Rattle.daemon.specs.Waits.{KnowsChild}
 use Rattle.daemon.specs.Serving.{Goes, Ends}
 
 -- a life goes on after exactly one turn
-pub record GoesOn (managed : List Managed) (from : model.Life) (old : Seen) (out : Option (List ℕ)) (to : model.Life) (new : Seen) (out_to : Option (List ℕ)) : Type 0 where
+pub record GoesOn (managed : List Managed) (from : model.Life) (old : Seen) (out : Option (List ℕ)) (to : model.Life)
+    (new : Seen) (out_to : Option (List ℕ)) : Type 0 where
   pub met : Met
   pub goes : Goes managed from old out to new out_to (met ∷ [])
   pub going : is_over to ≡ false
 
 abbrev pub IsOneTurn : List Managed → model.Life → Seen → Option (List ℕ) → Woken → Seen → Option (List ℕ) → Type 0
-IsOneTurn managed from old out (On life) new out_to = IsOrderly life × KnowsChild life.hooks new × GoesOn managed from old out (life_of life) new out_to
-IsOneTurn managed from old out (Over life) new out_to = KnowsChild life.hooks new × Ends 1 managed from old out (life_of life) new out_to
+IsOneTurn managed from old out (On life) new out_to =
+    IsOrderly life × KnowsChild life.hooks new × GoesOn managed from old out (life_of life) new out_to
+IsOneTurn managed from old out (Over life) new out_to =
+    KnowsChild life.hooks new × Ends 1 managed from old out (life_of life) new out_to

@@ -64,7 +64,9 @@ pub fn act<W: Outside>(
     requires sends { AllByRecursion IsOnInterface (sends_in step.outs) }
     requires kept { AreKeptBut touched step.core.ifaces outlook.files }
     requires known { (known : Option (List HostRow)) × WasKnown outlook.pending (rows_of step.core) known }
-    ensures does { IfOk result (λ life. ActsAs managed.now outlook step life (W.seen outside.old) (W.seen outside.new) text.old.items text.new.items) }
+    ensures does { IfOk result
+        (λ life. ActsAs managed.now outlook step life (W.seen outside.old)
+        (W.seen outside.new) text.old.items text.new.items) }
     ensures begun { IfErr result (λ _. BeginsActing managed.now outlook step (W.seen outside.old) (W.seen outside.new)) }
     ensures child { IfOk result (λ life. KnowsChild life.hooks (W.seen outside.new)) }
     ensures moment { IfOk result (λ life. life.moment ≡ outlook.moment) }

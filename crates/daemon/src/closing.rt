@@ -42,8 +42,11 @@ fn say_closing(life: &Life, text: &mut Vec<u8>) -> Result<(), NoMemory>
 
 /// Writes the last lines of a life: the addresses that it leaves.
 pub fn close<O: Sink>(life: &Life, out: &mut O, text: &mut Vec<u8>) -> Result<(), ServeEnd>
-    ensures ok { IfOk result (λ _. (O.faults out.old ≤ O.faults out.new) × WritesLines (O.written out.old) (O.written out.new) (closing_lines (life_of life.now))) }
-    ensures front { IfErr result (λ _. WritesFront (O.written out.old) (O.written out.new) [] (closing_lines (life_of life.now))) }
+    ensures ok { IfOk result
+        (λ _. (O.faults out.old ≤ O.faults out.new)
+        × WritesLines (O.written out.old) (O.written out.new) (closing_lines (life_of life.now))) }
+    ensures front { IfErr result
+        (λ _. WritesFront (O.written out.old) (O.written out.new) [] (closing_lines (life_of life.now))) }
     ensures cause { IfErr result (λ end. HasServeCause end (O.faults out.old) (O.faults out.new) 0 0) }
     ensures steady { O.never_fails out.old ≡ true → O.faults out.new ≡ O.faults out.old }
     ensures stays { O.never_fails out.new ≡ O.never_fails out.old }

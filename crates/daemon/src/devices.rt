@@ -34,12 +34,18 @@ pub struct Devices<L, S, H, K> {
 
 #[tactic(auto, using(crate::proofs::Answers::offered_by, crate::proofs::Answers::untaken_by, crate::proofs::Answers::unoffered))]
 fn offer_to<L: Link>(link: &mut L, iface: IfIndex, frame: &[u8]) -> Result<bool, NoMemory>
-    ensures offered { IfOk result (λ taken. OfferedBy iface.number frame.now taken (L.failing_sends link.old) (L.told link.old) (L.told link.new)) }
-    ensures counted { IfOk result (λ taken. CountsFailed failed_send (Offered iface.number frame.now taken ∷ []) (L.send_faults link.old) (L.send_faults link.new)) }
-    ensures failing { (L.failing_waits link.new ≡ L.failing_waits link.old) × (L.failing_sends link.new ≡ L.failing_sends link.old) }
+    ensures offered { IfOk result
+        (λ taken. OfferedBy iface.number frame.now taken (L.failing_sends link.old) (L.told link.old)
+        (L.told link.new)) }
+    ensures counted { IfOk result
+        (λ taken. CountsFailed failed_send (Offered iface.number frame.now taken ∷ []) (L.send_faults link.old)
+        (L.send_faults link.new)) }
+    ensures failing { (L.failing_waits link.new ≡ L.failing_waits link.old)
+        × (L.failing_sends link.new ≡ L.failing_sends link.old) }
     ensures waits { L.faults link.new ≡ L.faults link.old }
     ensures begins { L.begins link.new ≡ L.begins link.old }
-    ensures memory { IfErr result (λ _. (L.told link.new ≡ L.told link.old) × (L.send_faults link.new ≡ L.send_faults link.old)) }
+    ensures memory { IfErr result
+        (λ _. (L.told link.new ≡ L.told link.old) × (L.send_faults link.new ≡ L.send_faults link.old)) }
 {
     match link.send(iface, frame) {
         Ok(()) => Ok(true),
@@ -50,8 +56,11 @@ fn offer_to<L: Link>(link: &mut L, iface: IfIndex, frame: &[u8]) -> Result<bool,
 
 #[tactic(auto, using(crate::proofs::Answers::listed_by, crate::proofs::Answers::failed_list_by, crate::proofs::Answers::unlisted))]
 fn list_of<H: Host>(alloc: Global, host: &mut H) -> Result<Option<Vec<HostRow>>, NoMemory>
-    ensures listed { IfOk result (λ rows. ListedBy (rows_listed rows) (H.failing host.old) (H.told host.old) (H.told host.new)) }
-    ensures counted { IfOk result (λ rows. CountsFailed failed_host_call (Listed (rows_listed rows) ∷ []) (H.faults host.old) (H.faults host.new)) }
+    ensures listed { IfOk result
+        (λ rows. ListedBy (rows_listed rows) (H.failing host.old) (H.told host.old) (H.told host.new)) }
+    ensures counted { IfOk result
+        (λ rows. CountsFailed failed_host_call (Listed (rows_listed rows) ∷ []) (H.faults host.old)
+        (H.faults host.new)) }
     ensures failing { H.failing host.new ≡ H.failing host.old }
     ensures memory { IfErr result (λ _. (H.told host.new ≡ H.told host.old) × (H.faults host.new ≡ H.faults host.old)) }
 {
@@ -67,7 +76,9 @@ fn list_of<H: Host>(alloc: Global, host: &mut H) -> Result<Option<Vec<HostRow>>,
 fn change_of<H: Host>(host: &mut H, change: HostChange) -> Result<bool, NoMemory>
     requires { FitsChange change }
     ensures changed { IfOk result (λ done. ChangedBy change done (H.failing host.old) (H.told host.old) (H.told host.new)) }
-    ensures counted { IfOk result (λ done. CountsFailed failed_host_call (change_call change done ∷ []) (H.faults host.old) (H.faults host.new)) }
+    ensures counted { IfOk result
+        (λ done. CountsFailed failed_host_call (change_call change done ∷ []) (H.faults host.old)
+        (H.faults host.new)) }
     ensures failing { H.failing host.new ≡ H.failing host.old }
     ensures memory { IfErr result (λ _. (H.told host.new ≡ H.told host.old) × (H.faults host.new ≡ H.faults host.old)) }
 {
@@ -84,10 +95,16 @@ fn change_of<H: Host>(host: &mut H, change: HostChange) -> Result<bool, NoMemory
 
 #[tactic(auto, using(crate::proofs::Answers::asides_by, crate::proofs::Answers::failed_asides_by, crate::proofs::Answers::asides_unlisted, crate::proofs::Answers::asides_answered, crate::proofs::Answers::no_asides_answered))]
 fn asides_of<S: Store>(alloc: Global, store: &mut S) -> Result<Option<Vec<String>>, NoMemory>
-    ensures listed { IfOk result (λ names. AsidesBy (names_of names) (S.failing store.old) (S.told store.old) (S.told store.new)) }
-    ensures answered { IfOk result (λ names. Answered (S.failing store.old) (ListedAsides (names_of names) ∷ []) (S.told store.old) (S.told store.new)) }
-    ensures counted { IfOk result (λ names. CountsFailed failed_store_call (ListedAsides (names_of names) ∷ []) (S.faults store.old) (S.faults store.new)) }
-    ensures fit { IfOk result (λ names. IfSome names (λ v. AllByRecursion (λ name. IsFileName (string_bytes name)) v.items)) }
+    ensures listed { IfOk result
+        (λ names. AsidesBy (names_of names) (S.failing store.old) (S.told store.old) (S.told store.new)) }
+    ensures answered { IfOk result
+        (λ names. Answered (S.failing store.old) (ListedAsides (names_of names) ∷ []) (S.told store.old)
+        (S.told store.new)) }
+    ensures counted { IfOk result
+        (λ names. CountsFailed failed_store_call (ListedAsides (names_of names) ∷ []) (S.faults store.old)
+        (S.faults store.new)) }
+    ensures fit { IfOk result
+        (λ names. IfSome names (λ v. AllByRecursion (λ name. IsFileName (string_bytes name)) v.items)) }
     ensures failing { S.failing store.new ≡ S.failing store.old }
     ensures memory { IfErr result (λ _. (S.told store.new ≡ S.told store.old) × (S.faults store.new ≡ S.faults store.old)) }
 {
@@ -102,9 +119,14 @@ fn asides_of<S: Store>(alloc: Global, store: &mut S) -> Result<Option<Vec<String
 #[tactic(auto, using(crate::proofs::Answers::found_by, crate::proofs::Answers::missing_by, crate::proofs::Answers::unread_by, crate::proofs::Answers::not_read, crate::proofs::Answers::found_answered, crate::proofs::Answers::missing_answered, crate::proofs::Answers::unread_answered))]
 fn read_from<S: Store>(alloc: Global, store: &mut S, name: &str) -> Result<Got, NoMemory>
     requires { IsFileName name.now }
-    ensures read { IfOk result (λ got. ReadBy name.now (got_reading got) (S.failing store.old) (S.told store.old) (S.told store.new)) }
-    ensures answered { IfOk result (λ got. Answered (S.failing store.old) (ReadFile name.now (got_reading got) ∷ []) (S.told store.old) (S.told store.new)) }
-    ensures counted { IfOk result (λ got. CountsFailed failed_store_call (ReadFile name.now (got_reading got) ∷ []) (S.faults store.old) (S.faults store.new)) }
+    ensures read { IfOk result
+        (λ got. ReadBy name.now (got_reading got) (S.failing store.old) (S.told store.old) (S.told store.new)) }
+    ensures answered { IfOk result
+        (λ got. Answered (S.failing store.old) (ReadFile name.now (got_reading got) ∷ []) (S.told store.old)
+        (S.told store.new)) }
+    ensures counted { IfOk result
+        (λ got. CountsFailed failed_store_call (ReadFile name.now (got_reading got) ∷ []) (S.faults store.old)
+        (S.faults store.new)) }
     ensures failing { S.failing store.new ≡ S.failing store.old }
     ensures memory { IfErr result (λ _. (S.told store.new ≡ S.told store.old) × (S.faults store.new ≡ S.faults store.old)) }
 {
@@ -120,9 +142,14 @@ fn read_from<S: Store>(alloc: Global, store: &mut S, name: &str) -> Result<Got, 
 #[tactic(auto, using(crate::proofs::Answers::written_by, crate::proofs::Answers::not_written_by, crate::proofs::Answers::unwritten))]
 fn write_to<S: Store>(store: &mut S, name: &str, bytes: &[u8]) -> Result<bool, NoMemory>
     requires { IsFileName name.now }
-    ensures written { IfOk result (λ done. WrittenBy name.now bytes.now done (S.failing store.old) (S.told store.old) (S.told store.new)) }
-    ensures answered { IfOk result (λ done. Answered (S.failing store.old) (WroteAside name.now bytes.now done ∷ []) (S.told store.old) (S.told store.new)) }
-    ensures counted { IfOk result (λ done. CountsFailed failed_store_call (WroteAside name.now bytes.now done ∷ []) (S.faults store.old) (S.faults store.new)) }
+    ensures written { IfOk result
+        (λ done. WrittenBy name.now bytes.now done (S.failing store.old) (S.told store.old) (S.told store.new)) }
+    ensures answered { IfOk result
+        (λ done. Answered (S.failing store.old) (WroteAside name.now bytes.now done ∷ []) (S.told store.old)
+        (S.told store.new)) }
+    ensures counted { IfOk result
+        (λ done. CountsFailed failed_store_call (WroteAside name.now bytes.now done ∷ []) (S.faults store.old)
+        (S.faults store.new)) }
     ensures failing { S.failing store.new ≡ S.failing store.old }
     ensures memory { IfErr result (λ _. (S.told store.new ≡ S.told store.old) × (S.faults store.new ≡ S.faults store.old)) }
 {
@@ -136,9 +163,14 @@ fn write_to<S: Store>(store: &mut S, name: &str, bytes: &[u8]) -> Result<bool, N
 #[tactic(auto, using(crate::proofs::Answers::synced_by, crate::proofs::Answers::not_synced_by, crate::proofs::Answers::unwritten))]
 fn sync_in<S: Store>(store: &mut S, name: &str) -> Result<bool, NoMemory>
     requires { IsFileName name.now }
-    ensures synced { IfOk result (λ done. SyncedBy name.now done (S.failing store.old) (S.told store.old) (S.told store.new)) }
-    ensures answered { IfOk result (λ done. Answered (S.failing store.old) (SyncedAside name.now done ∷ []) (S.told store.old) (S.told store.new)) }
-    ensures counted { IfOk result (λ done. CountsFailed failed_store_call (SyncedAside name.now done ∷ []) (S.faults store.old) (S.faults store.new)) }
+    ensures synced { IfOk result
+        (λ done. SyncedBy name.now done (S.failing store.old) (S.told store.old) (S.told store.new)) }
+    ensures answered { IfOk result
+        (λ done. Answered (S.failing store.old) (SyncedAside name.now done ∷ []) (S.told store.old)
+        (S.told store.new)) }
+    ensures counted { IfOk result
+        (λ done. CountsFailed failed_store_call (SyncedAside name.now done ∷ []) (S.faults store.old)
+        (S.faults store.new)) }
     ensures failing { S.failing store.new ≡ S.failing store.old }
     ensures memory { IfErr result (λ _. (S.told store.new ≡ S.told store.old) × (S.faults store.new ≡ S.faults store.old)) }
 {
@@ -152,9 +184,14 @@ fn sync_in<S: Store>(store: &mut S, name: &str) -> Result<bool, NoMemory>
 #[tactic(auto, using(crate::proofs::Answers::renamed_by, crate::proofs::Answers::not_renamed_by, crate::proofs::Answers::unwritten))]
 fn rename_in<S: Store>(store: &mut S, name: &str) -> Result<bool, NoMemory>
     requires { IsFileName name.now }
-    ensures renamed { IfOk result (λ done. RenamedBy name.now done (S.failing store.old) (S.told store.old) (S.told store.new)) }
-    ensures answered { IfOk result (λ done. Answered (S.failing store.old) (RenamedAside name.now done ∷ []) (S.told store.old) (S.told store.new)) }
-    ensures counted { IfOk result (λ done. CountsFailed failed_store_call (RenamedAside name.now done ∷ []) (S.faults store.old) (S.faults store.new)) }
+    ensures renamed { IfOk result
+        (λ done. RenamedBy name.now done (S.failing store.old) (S.told store.old) (S.told store.new)) }
+    ensures answered { IfOk result
+        (λ done. Answered (S.failing store.old) (RenamedAside name.now done ∷ []) (S.told store.old)
+        (S.told store.new)) }
+    ensures counted { IfOk result
+        (λ done. CountsFailed failed_store_call (RenamedAside name.now done ∷ []) (S.faults store.old)
+        (S.faults store.new)) }
     ensures failing { S.failing store.new ≡ S.failing store.old }
     ensures memory { IfErr result (λ _. (S.told store.new ≡ S.told store.old) × (S.faults store.new ≡ S.faults store.old)) }
 {
@@ -168,9 +205,14 @@ fn rename_in<S: Store>(store: &mut S, name: &str) -> Result<bool, NoMemory>
 #[tactic(auto, using(crate::proofs::Answers::removed_by, crate::proofs::Answers::unremoved_by, crate::proofs::Answers::unwritten))]
 fn remove_from<S: Store>(store: &mut S, name: &str) -> Result<bool, NoMemory>
     requires { IsFileName name.now }
-    ensures removed { IfOk result (λ done. RemovedBy name.now done (S.failing store.old) (S.told store.old) (S.told store.new)) }
-    ensures answered { IfOk result (λ done. Answered (S.failing store.old) (RemovedFile name.now done ∷ []) (S.told store.old) (S.told store.new)) }
-    ensures counted { IfOk result (λ done. CountsFailed failed_store_call (RemovedFile name.now done ∷ []) (S.faults store.old) (S.faults store.new)) }
+    ensures removed { IfOk result
+        (λ done. RemovedBy name.now done (S.failing store.old) (S.told store.old) (S.told store.new)) }
+    ensures answered { IfOk result
+        (λ done. Answered (S.failing store.old) (RemovedFile name.now done ∷ []) (S.told store.old)
+        (S.told store.new)) }
+    ensures counted { IfOk result
+        (λ done. CountsFailed failed_store_call (RemovedFile name.now done ∷ []) (S.faults store.old)
+        (S.faults store.new)) }
     ensures failing { S.failing store.new ≡ S.failing store.old }
     ensures memory { IfErr result (λ _. (S.told store.new ≡ S.told store.old) × (S.faults store.new ≡ S.faults store.old)) }
 {
@@ -184,8 +226,11 @@ fn remove_from<S: Store>(store: &mut S, name: &str) -> Result<bool, NoMemory>
 #[tactic(auto, using(crate::proofs::Answers::settled_by, crate::proofs::Answers::unsettled_by, crate::proofs::Answers::unwritten))]
 fn settle_in<S: Store>(store: &mut S) -> Result<bool, NoMemory>
     ensures settled { IfOk result (λ done. SettledBy done (S.failing store.old) (S.told store.old) (S.told store.new)) }
-    ensures answered { IfOk result (λ done. Answered (S.failing store.old) (SettledFiles done ∷ []) (S.told store.old) (S.told store.new)) }
-    ensures counted { IfOk result (λ done. CountsFailed failed_store_call (SettledFiles done ∷ []) (S.faults store.old) (S.faults store.new)) }
+    ensures answered { IfOk result
+        (λ done. Answered (S.failing store.old) (SettledFiles done ∷ []) (S.told store.old) (S.told store.new)) }
+    ensures counted { IfOk result
+        (λ done. CountsFailed failed_store_call (SettledFiles done ∷ []) (S.faults store.old)
+        (S.faults store.new)) }
     ensures failing { S.failing store.new ≡ S.failing store.old }
     ensures memory { IfErr result (λ _. (S.told store.new ≡ S.told store.old) × (S.faults store.new ≡ S.faults store.old)) }
 {
@@ -199,11 +244,16 @@ fn settle_in<S: Store>(store: &mut S) -> Result<bool, NoMemory>
 #[tactic(auto, using(crate::proofs::Answers::started_by, crate::proofs::Answers::unstarted_by, crate::proofs::Answers::unasked_start))]
 fn start_of<K: Hooks>(hooks: &mut K, job: &HookJob) -> Result<bool, NoMemory>
     requires { K.running hooks.old ≡ false }
-    ensures started { IfOk result (λ done. StartedBy (job_of job.now) done (K.failing hooks.old) (K.told hooks.old) (K.told hooks.new)) }
-    ensures counted { IfOk result (λ done. CountsFailed failed_hook_call (Started (job_of job.now) done ∷ []) (K.faults hooks.old) (K.faults hooks.new)) }
+    ensures started { IfOk result
+        (λ done. StartedBy (job_of job.now) done (K.failing hooks.old) (K.told hooks.old) (K.told hooks.new)) }
+    ensures counted { IfOk result
+        (λ done. CountsFailed failed_hook_call (Started (job_of job.now) done ∷ []) (K.faults hooks.old)
+        (K.faults hooks.new)) }
     ensures runs { IfOk result (λ done. K.running hooks.new ≡ done) }
     ensures failing { K.failing hooks.new ≡ K.failing hooks.old }
-    ensures memory { IfErr result (λ _. (K.told hooks.new ≡ K.told hooks.old) × ((K.faults hooks.new ≡ K.faults hooks.old) × (K.running hooks.new ≡ K.running hooks.old))) }
+    ensures memory { IfErr result
+        (λ _. (K.told hooks.new ≡ K.told hooks.old)
+        × ((K.faults hooks.new ≡ K.faults hooks.old) × (K.running hooks.new ≡ K.running hooks.old))) }
 {
     match hooks.start(job) {
         Ok(()) => Ok(true),
@@ -243,7 +293,12 @@ impl<L: Link, S: Store, H: Host, K: Hooks> Outside for Devices<L, S, H, K> {
       host = record { told = H.told d.host; failing = H.failing d.host; faults = H.faults d.host };
       store = record { told = S.told d.store; failing = S.failing d.store; faults = S.faults d.store };
       hooks = record { told = K.told d.hooks; failing = K.failing d.hooks; faults = K.faults d.hooks };
-      waiting = record { begins = L.begins d.link; faults = L.faults d.link; failing = L.failing_waits d.link; child = K.running d.hooks };
+      waiting = record {
+        begins = L.begins d.link;
+        faults = L.faults d.link;
+        failing = L.failing_waits d.link;
+        child = K.running d.hooks;
+      };
     } };
 
     fn begin(&mut self) -> Result<Begin, Failed> {

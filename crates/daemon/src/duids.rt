@@ -75,7 +75,8 @@ fn duid_by(alloc: Global, got: &Got) -> Result<Option<Duid>, NoMemory>
 
 /// The DUID that was read, where it was looked for and is one.
 fn duid_read(alloc: Global, read: &Option<Got>) -> Result<Option<Duid>, NoMemory>
-    ensures { IfOk result (λ duid. option_map (λ d. d.bytes.items) duid ≡ option_and_then duid_by (option_map got_reading read.now)) }
+    ensures { IfOk result
+        (λ duid. option_map (λ d. d.bytes.items) duid ≡ option_and_then duid_by (option_map got_reading read.now)) }
 {
     match read {
         Some(got) => duid_by(alloc, got),

@@ -38,7 +38,9 @@ fn read_if<W: Outside>(
     text: &mut Vec<u8>,
 ) -> Result<Option<Got>, NoMemory>
     requires { IsFileName name.now }
-    ensures does { IfOk result (λ got. Does (reading_if is_kept name.now) (option_map got_reading got) (W.seen outside.old) (W.seen outside.new) text.old.items text.new.items) }
+    ensures does { IfOk result
+        (λ got. Does (reading_if is_kept name.now) (option_map got_reading got) (W.seen outside.old)
+        (W.seen outside.new) text.old.items text.new.items) }
     ensures begun { IfErr result (λ _. HasBegun (reading_if is_kept name.now) (W.seen outside.old) (W.seen outside.new)) }
     ensures waiting { (W.seen outside.new).waiting ≡ (W.seen outside.old).waiting }
 {
@@ -89,7 +91,11 @@ fn begin_with(
     lease6: &Option<Got>,
 ) -> Result<Beginning, NoMemory>
     requires { FitsManaged managed.now }
-    ensures is { IfOk result (λ begun. beginning_of begun ≡ loading.beginning_of duid.now.bytes.items (loading.loaded managed.now (option_map got_reading lease4.now) (option_map got_reading lease6.now))) }
+    ensures is { IfOk result
+        (λ begun. beginning_of begun
+        ≡ loading.beginning_of duid.now.bytes.items
+        (loading.loaded managed.now (option_map got_reading lease4.now)
+        (option_map got_reading lease6.now))) }
     ensures fit { IfOk result (λ begun. FitsBeginning (beginning_of begun)) }
 {
     Ok(Beginning {
@@ -119,8 +125,11 @@ fn load_one<W: Outside>(
     text: &mut Vec<u8>,
 ) -> Result<Loaded, NoMemory>
     requires { FitsManaged managed.now }
-    ensures loads { IfOk result (λ one. LoadsOne managed.now duid.now.bytes.items one (W.seen outside.old) (W.seen outside.new) text.old.items text.new.items) }
-    ensures begun { IfErr result (λ _. HasBegun (loading.loading_one managed.now) (W.seen outside.old) (W.seen outside.new)) }
+    ensures loads { IfOk result
+        (λ one. LoadsOne managed.now duid.now.bytes.items one (W.seen outside.old)
+        (W.seen outside.new) text.old.items text.new.items) }
+    ensures begun { IfErr result
+        (λ _. HasBegun (loading.loading_one managed.now) (W.seen outside.old) (W.seen outside.new)) }
     ensures fit { IfOk result (λ one. FitsBeginning (beginning_of one.beginning)) }
     ensures waiting { (W.seen outside.new).waiting ≡ (W.seen outside.old).waiting }
 {
@@ -146,8 +155,8 @@ pub struct Found {
     pub files: Vec<KeptFile>,
 }
 
-/// Reads the files of the interfaces' leases, one interface after another. One that can't be read doesn't stop the others.
-/// `files` are those that were read before.
+/// Reads the files of the interfaces' leases, one interface after another. One that can't be read doesn't stop the
+/// others. `files` are those that were read before.
 fn load_leases<W: Outside>(
     alloc: Global,
     outside: &mut W,
@@ -157,7 +166,9 @@ fn load_leases<W: Outside>(
     text: &mut Vec<u8>,
 ) -> Result<Found, NoMemory>
     requires { AreManaged managed.now }
-    ensures loads { IfOk result (λ found. LoadsLeases managed.now duid.now.bytes.items files.items (map beginning_of found.beginnings.items) found.files.items
+    ensures loads { IfOk result
+        (λ found. LoadsLeases managed.now duid.now.bytes.items files.items
+        (map beginning_of found.beginnings.items) found.files.items
         (W.seen outside.old) (W.seen outside.new) text.old.items text.new.items) }
     ensures begun { IfErr result (λ _. HasBegun (loading.loading managed.now) (W.seen outside.old) (W.seen outside.new)) }
     ensures fit { IfOk result (λ found. AreBeginnings (map beginning_of found.beginnings.items)) }
@@ -176,7 +187,9 @@ fn load_leases<W: Outside>(
 
 /// The file of the DUID, where it was read. What isn't the text of a DUID is to be replaced by this one.
 fn duid_files(alloc: Global, duid: &Duid, read: Option<Got>) -> Result<Vec<KeptFile>, NoMemory>
-    ensures { IfOk result (λ files. files.items ≡ file_with (model.Duid duid.now.bytes.items) loading.duid_file (option_map got_reading read)) }
+    ensures { IfOk result
+        (λ files. files.items
+        ≡ file_with (model.Duid duid.now.bytes.items) loading.duid_file (option_map got_reading read)) }
 {
     let name = String::from_str(alloc, DUID_FILE)?;
     let keeps = Keeps::Duid(duid_copied(alloc, duid)?);
@@ -195,7 +208,9 @@ fn load_with<W: Outside>(
 ) -> Result<Found, NoMemory>
     requires managed { AreManaged managed.now }
     requires first { slice_get managed.now 0 ≡ Some first.now }
-    ensures loads { IfOk result (λ found. LoadsOwn managed.now (map beginning_of found.beginnings.items) found.files.items (W.seen outside.old) (W.seen outside.new) text.old.items text.new.items) }
+    ensures loads { IfOk result
+        (λ found. LoadsOwn managed.now (map beginning_of found.beginnings.items) found.files.items
+        (W.seen outside.old) (W.seen outside.new) text.old.items text.new.items) }
     ensures begun { IfErr result (λ _. HasBegun (loading_own managed.now) (W.seen outside.old) (W.seen outside.new)) }
     ensures fit { IfOk result (λ found. AreBeginnings (map beginning_of found.beginnings.items)) }
     ensures waiting { (W.seen outside.new).waiting ≡ (W.seen outside.old).waiting }
@@ -215,7 +230,9 @@ fn load_own<W: Outside>(
     text: &mut Vec<u8>,
 ) -> Result<Found, NoMemory>
     requires { AreManaged managed.now }
-    ensures loads { IfOk result (λ found. LoadsOwn managed.now (map beginning_of found.beginnings.items) found.files.items (W.seen outside.old) (W.seen outside.new) text.old.items text.new.items) }
+    ensures loads { IfOk result
+        (λ found. LoadsOwn managed.now (map beginning_of found.beginnings.items) found.files.items
+        (W.seen outside.old) (W.seen outside.new) text.old.items text.new.items) }
     ensures begun { IfErr result (λ _. HasBegun (loading_own managed.now) (W.seen outside.old) (W.seen outside.new)) }
     ensures fit { IfOk result (λ found. AreBeginnings (map beginning_of found.beginnings.items)) }
     ensures waiting { (W.seen outside.new).waiting ≡ (W.seen outside.old).waiting }
@@ -231,7 +248,8 @@ fn load_own<W: Outside>(
 
 /// The file of the resolver.
 fn resolver_kept(alloc: Global, got: Got) -> Result<Option<KeptFile>, NoMemory>
-    ensures { IfOk result (λ file. option_to_list file ≡ file_with model.Resolver loading.resolver_file (Some (got_reading got))) }
+    ensures { IfOk result
+        (λ file. option_to_list file ≡ file_with model.Resolver loading.resolver_file (Some (got_reading got))) }
 {
     let name = String::from_str(alloc, RESOLVER_FILE)?;
     Ok(file_with(Keeps::Resolver, name, Some(got)))
@@ -245,8 +263,11 @@ pub fn load_all<W: Outside>(
     text: &mut Vec<u8>,
 ) -> Result<Found, NoMemory>
     requires { AreManaged managed.now }
-    ensures loads { IfOk result (λ found. LoadsAll managed.now (map beginning_of found.beginnings.items) found.files.items (W.seen outside.old) (W.seen outside.new) text.old.items text.new.items) }
-    ensures begun { IfErr result (λ _. HasBegun (loading.loading_files managed.now) (W.seen outside.old) (W.seen outside.new)) }
+    ensures loads { IfOk result
+        (λ found. LoadsAll managed.now (map beginning_of found.beginnings.items) found.files.items
+        (W.seen outside.old) (W.seen outside.new) text.old.items text.new.items) }
+    ensures begun { IfErr result
+        (λ _. HasBegun (loading.loading_files managed.now) (W.seen outside.old) (W.seen outside.new)) }
     ensures fit { IfOk result (λ found. AreBeginnings (map beginning_of found.beginnings.items)) }
     ensures waiting { (W.seen outside.new).waiting ≡ (W.seen outside.old).waiting }
 {

@@ -51,7 +51,9 @@ fn poll<W: Outside>(
     text: &mut Vec<u8>,
 ) -> Result<Option<Poll>, NoMemory>
     requires { (W.seen outside.old).waiting.child ≡ true }
-    ensures does { IfOk result (λ answer. Does (Then (asks.Poll number) Done) answer (W.seen outside.old) (W.seen outside.new) text.old.items text.new.items) }
+    ensures does { IfOk result
+        (λ answer. Does (Then (asks.Poll number) Done) answer (W.seen outside.old)
+        (W.seen outside.new) text.old.items text.new.items) }
     ensures begun { IfErr result (λ _. HasBegun (Then (asks.Poll number) Done) (W.seen outside.old) (W.seen outside.new)) }
     ensures child { IfOk result (λ answer. (W.seen outside.new).waiting.child ≡ runs_on answer) }
     ensures waiting { OnlyChild (W.seen outside.old).waiting (W.seen outside.new).waiting }
@@ -64,7 +66,9 @@ fn poll<W: Outside>(
 /// Forgets the child of the job of a number.
 fn abandon<W: Outside>(outside: &mut W, number: u64, text: &mut Vec<u8>) -> Result<(), NoMemory>
     requires { (W.seen outside.old).waiting.child ≡ true }
-    ensures does { IfOk result (λ x. Does (Then (Abandon number) Done) x (W.seen outside.old) (W.seen outside.new) text.old.items text.new.items) }
+    ensures does { IfOk result
+        (λ x. Does (Then (Abandon number) Done) x (W.seen outside.old)
+        (W.seen outside.new) text.old.items text.new.items) }
     ensures begun { IfErr result (λ _. HasBegun (Then (Abandon number) Done) (W.seen outside.old) (W.seen outside.new)) }
     ensures child { (W.seen outside.new).waiting.child ≡ false }
     ensures waiting { OnlyChild (W.seen outside.old).waiting (W.seen outside.new).waiting }
@@ -91,7 +95,9 @@ pub fn poll_child<W: Outside>(
     text: &mut Vec<u8>,
 ) -> Result<(), NoMemory>
     requires { KnowsChild hooks.old (W.seen outside.old) }
-    ensures does { OnOk result (Does (polling at hooks.old) hooks.new (W.seen outside.old) (W.seen outside.new) text.old.items text.new.items) }
+    ensures does { OnOk result
+        (Does (polling at hooks.old) hooks.new (W.seen outside.old)
+        (W.seen outside.new) text.old.items text.new.items) }
     ensures begun { IfErr result (λ _. HasBegun (polling at hooks.old) (W.seen outside.old) (W.seen outside.new)) }
     ensures child { OnOk result (KnowsChild hooks.new (W.seen outside.new)) }
     ensures waiting { OnlyChild (W.seen outside.old).waiting (W.seen outside.new).waiting }
@@ -123,7 +129,9 @@ fn poll_running<W: Outside>(
 ) -> Result<(), NoMemory>
     requires number { Some number ≡ option_map (λ child. child.number) hooks.old.child }
     requires child { (W.seen outside.old).waiting.child ≡ true }
-    ensures does { OnOk result (Does (polling at hooks.old) hooks.new (W.seen outside.old) (W.seen outside.new) text.old.items text.new.items) }
+    ensures does { OnOk result
+        (Does (polling at hooks.old) hooks.new (W.seen outside.old)
+        (W.seen outside.new) text.old.items text.new.items) }
     ensures begun { IfErr result (λ _. HasBegun (polling at hooks.old) (W.seen outside.old) (W.seen outside.new)) }
     ensures child { OnOk result (KnowsChild hooks.new (W.seen outside.new)) }
     ensures waiting { OnlyChild (W.seen outside.old).waiting (W.seen outside.new).waiting }
@@ -225,7 +233,9 @@ fn say_variables(vars: &[HookVar], text: &mut Vec<u8>) -> Result<(), NoMemory>
 }
 
 fn say_started(job: &HookJob, done: bool, text: &mut Vec<u8>) -> Result<(), NoMemory>
-    ensures { OnOk result (Prints text.old.items text.new.items (hook_lines (job_of job.now).number (calls.Started (job_of job.now) done))) }
+    ensures { OnOk result
+        (Prints text.old.items text.new.items
+        (hook_lines (job_of job.now).number (calls.Started (job_of job.now) done))) }
 {
     let line = TranscriptLine::HookStarted {
         number: job.number,
@@ -240,8 +250,11 @@ fn say_started(job: &HookJob, done: bool, text: &mut Vec<u8>) -> Result<(), NoMe
 /// Starts a job.
 fn start<W: Outside>(outside: &mut W, job: &HookJob, text: &mut Vec<u8>) -> Result<bool, NoMemory>
     requires { (W.seen outside.old).waiting.child ≡ false }
-    ensures does { IfOk result (λ done. Does (Then (Start (job_of job.now)) Done) done (W.seen outside.old) (W.seen outside.new) text.old.items text.new.items) }
-    ensures begun { IfErr result (λ _. HasBegun (Then (Start (job_of job.now)) Done) (W.seen outside.old) (W.seen outside.new)) }
+    ensures does { IfOk result
+        (λ done. Does (Then (Start (job_of job.now)) Done) done (W.seen outside.old)
+        (W.seen outside.new) text.old.items text.new.items) }
+    ensures begun { IfErr result
+        (λ _. HasBegun (Then (Start (job_of job.now)) Done) (W.seen outside.old) (W.seen outside.new)) }
     ensures child { IfOk result (λ done. (W.seen outside.new).waiting.child ≡ done) }
     ensures waiting { OnlyChild (W.seen outside.old).waiting (W.seen outside.new).waiting }
 {
@@ -268,8 +281,12 @@ fn start_next<W: Outside>(
     text: &mut Vec<u8>,
 ) -> Result<(), NoMemory>
     requires { KnowsChild hooks.old (W.seen outside.old) }
-    ensures does { OnOk result (Does (starting (next_order hooks.old) (after_next at hooks.old)) hooks.new (W.seen outside.old) (W.seen outside.new) text.old.items text.new.items) }
-    ensures begun { IfErr result (λ _. HasBegun (starting (next_order hooks.old) (after_next at hooks.old)) (W.seen outside.old) (W.seen outside.new)) }
+    ensures does { OnOk result
+        (Does (starting (next_order hooks.old) (after_next at hooks.old)) hooks.new (W.seen outside.old)
+        (W.seen outside.new) text.old.items text.new.items) }
+    ensures begun { IfErr result
+        (λ _. HasBegun (starting (next_order hooks.old) (after_next at hooks.old)) (W.seen outside.old)
+        (W.seen outside.new)) }
     ensures child { OnOk result (KnowsChild hooks.new (W.seen outside.new)) }
     ensures waiting { OnlyChild (W.seen outside.old).waiting (W.seen outside.new).waiting }
 {
@@ -294,8 +311,11 @@ pub fn hook_turn<W: Outside>(
     text: &mut Vec<u8>,
 ) -> Result<(), NoMemory>
     requires { KnowsChild hooks.old (W.seen outside.old) }
-    ensures does { OnOk result (Does (hooking at (map job_of jobs.items) hooks.old) hooks.new (W.seen outside.old) (W.seen outside.new) text.old.items text.new.items) }
-    ensures begun { IfErr result (λ _. HasBegun (hooking at (map job_of jobs.items) hooks.old) (W.seen outside.old) (W.seen outside.new)) }
+    ensures does { OnOk result
+        (Does (hooking at (map job_of jobs.items) hooks.old) hooks.new (W.seen outside.old)
+        (W.seen outside.new) text.old.items text.new.items) }
+    ensures begun { IfErr result
+        (λ _. HasBegun (hooking at (map job_of jobs.items) hooks.old) (W.seen outside.old) (W.seen outside.new)) }
     ensures child { OnOk result (KnowsChild hooks.new (W.seen outside.new)) }
     ensures waiting { OnlyChild (W.seen outside.old).waiting (W.seen outside.new).waiting }
 {

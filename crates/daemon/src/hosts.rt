@@ -81,7 +81,9 @@ fn list<W: Outside>(
     outside: &mut W,
     text: &mut Vec<u8>,
 ) -> Result<Option<Vec<HostRow>>, NoMemory>
-    ensures does { IfOk result (λ rows. Does (Then ListRows Done) (rows_in rows) (W.seen outside.old) (W.seen outside.new) text.old.items text.new.items) }
+    ensures does { IfOk result
+        (λ rows. Does (Then ListRows Done) (rows_in rows) (W.seen outside.old)
+        (W.seen outside.new) text.old.items text.new.items) }
     ensures begun { IfErr result (λ _. HasBegun (Then ListRows Done) (W.seen outside.old) (W.seen outside.new)) }
     ensures in_order { IfOk result (λ rows. IfSome (rows_in rows) InRowOrder) }
     ensures waiting { (W.seen outside.new).waiting ≡ (W.seen outside.old).waiting }
@@ -98,7 +100,9 @@ fn change<W: Outside>(
     text: &mut Vec<u8>,
 ) -> Result<bool, NoMemory>
     requires { FitsChange change }
-    ensures does { IfOk result (λ done. Does (Then (Change change) Done) done (W.seen outside.old) (W.seen outside.new) text.old.items text.new.items) }
+    ensures does { IfOk result
+        (λ done. Does (Then (Change change) Done) done (W.seen outside.old)
+        (W.seen outside.new) text.old.items text.new.items) }
     ensures begun { IfErr result (λ _. HasBegun (Then (Change change) Done) (W.seen outside.old) (W.seen outside.new)) }
     ensures waiting { (W.seen outside.new).waiting ≡ (W.seen outside.old).waiting }
 {
@@ -114,7 +118,9 @@ fn make_changes<W: Outside>(
     text: &mut Vec<u8>,
 ) -> Result<Table, NoMemory>
     requires { AllByRecursion FitsChange changes.now }
-    ensures does { IfOk result (λ table. MakesChanges changes.now table (W.seen outside.old) (W.seen outside.new) text.old.items text.new.items) }
+    ensures does { IfOk result
+        (λ table. MakesChanges changes.now table (W.seen outside.old)
+        (W.seen outside.new) text.old.items text.new.items) }
     ensures begun { IfErr result (λ _. BeginsChanges changes.now (W.seen outside.old) (W.seen outside.new)) }
     ensures waiting { (W.seen outside.new).waiting ≡ (W.seen outside.old).waiting }
 {
@@ -134,7 +140,8 @@ fn update<W: Outside>(
     text: &mut Vec<u8>,
 ) -> Result<Table, NoMemory>
     requires { AllByRecursion IsRow diff.now.come.items }
-    ensures does { IfOk result (λ table. Updates diff.now table (W.seen outside.old) (W.seen outside.new) text.old.items text.new.items) }
+    ensures does { IfOk result
+        (λ table. Updates diff.now table (W.seen outside.old) (W.seen outside.new) text.old.items text.new.items) }
     ensures begun { IfErr result (λ _. BeginsUpdate diff.now (W.seen outside.old) (W.seen outside.new)) }
     ensures waiting { (W.seen outside.new).waiting ≡ (W.seen outside.old).waiting }
 {
@@ -152,8 +159,11 @@ fn look_again<W: Outside>(
 ) -> Result<Table, NoMemory>
     requires rows { AllByRecursion IsRow wanted.now }
     requires in_order { InRowOrder wanted.now }
-    ensures does { IfOk result (λ table. Does (hosting managed.now wanted.now None) (known_in table wanted.now) (W.seen outside.old) (W.seen outside.new) text.old.items text.new.items) }
-    ensures begun { IfErr result (λ _. HasBegun (hosting managed.now wanted.now None) (W.seen outside.old) (W.seen outside.new)) }
+    ensures does { IfOk result
+        (λ table. Does (hosting managed.now wanted.now None) (known_in table wanted.now) (W.seen outside.old)
+        (W.seen outside.new) text.old.items text.new.items) }
+    ensures begun { IfErr result
+        (λ _. HasBegun (hosting managed.now wanted.now None) (W.seen outside.old) (W.seen outside.new)) }
     ensures waiting { (W.seen outside.new).waiting ≡ (W.seen outside.old).waiting }
 {
     match list(alloc, outside, text)? {
@@ -178,8 +188,11 @@ pub fn host_turn<W: Outside>(
     requires rows { AllByRecursion IsRow wanted.now }
     requires in_order { InRowOrder wanted.now }
     requires known { (known : Option (List HostRow)) × WasKnown pending wanted.now known }
-    ensures does { IfOk result (λ table. Hosts managed.now pending wanted.now table (W.seen outside.old) (W.seen outside.new) text.old.items text.new.items) }
-    ensures begun { IfErr result (λ _. BeginsHosts managed.now pending wanted.now (W.seen outside.old) (W.seen outside.new)) }
+    ensures does { IfOk result
+        (λ table. Hosts managed.now pending wanted.now table (W.seen outside.old)
+        (W.seen outside.new) text.old.items text.new.items) }
+    ensures begun { IfErr result
+        (λ _. BeginsHosts managed.now pending wanted.now (W.seen outside.old) (W.seen outside.new)) }
     ensures waiting { (W.seen outside.new).waiting ≡ (W.seen outside.old).waiting }
 {
     match pending {

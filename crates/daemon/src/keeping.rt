@@ -137,7 +137,8 @@ impl Model for KeptFile {
 
     ghost Value = { model.KeptFile };
 
-    ghost view = { λ file. record { keeps = keeps_of file.keeps; name = string_bytes file.name; known = known_of file.known } };
+    ghost view = { λ file.
+        record { keeps = keeps_of file.keeps; name = string_bytes file.name; known = known_of file.known } };
 
     ghost invariant = { λ file. IsFileName (string_bytes file.name) };
 }
@@ -153,8 +154,8 @@ fn same_content(held: &Option<Vec<u8>>, wanted: &Option<Vec<u8>>) -> bool
     }
 }
 
-/// Whether a file that couldn't be read is left alone: that of a lease until one is kept, that of the DUID for good. That of
-/// the resolver isn't.
+/// Whether a file that couldn't be read is left alone: that of a lease until one is kept, that of the DUID for good.
+/// That of the resolver isn't.
 fn is_left(keeps: &Keeps, wanted: &Option<Vec<u8>>) -> bool
     ensures { result ≡ is_left (keeps_of keeps.now) (content_of wanted.now) }
 {
@@ -190,7 +191,9 @@ fn known_after(wanted: Option<Vec<u8>>, done: bool) -> Known
 
 /// The text of the DHCPv4 lease that is kept; without one there is to be no file.
 fn text4(alloc: Global, lease: Option<&Lease4>) -> Result<Option<Vec<u8>>, NoMemory>
-    ensures { IfOk result (λ wanted. content_of wanted ≡ option_map lease4_text (option_map (λ lease. lease_content lease.now) lease.entry)) }
+    ensures { IfOk result
+        (λ wanted. content_of wanted
+        ≡ option_map lease4_text (option_map (λ lease. lease_content lease.now) lease.entry)) }
 {
     match lease {
         None => Ok(None),
@@ -200,7 +203,9 @@ fn text4(alloc: Global, lease: Option<&Lease4>) -> Result<Option<Vec<u8>>, NoMem
 
 /// The text of the DHCPv6 lease that is kept; without one there is to be no file.
 fn text6(alloc: Global, lease: Option<&Lease6>) -> Result<Option<Vec<u8>>, NoMemory>
-    ensures { IfOk result (λ wanted. content_of wanted ≡ option_map lease6_text (option_map (λ lease. lease6_content lease.now) lease.entry)) }
+    ensures { IfOk result
+        (λ wanted. content_of wanted
+        ≡ option_map lease6_text (option_map (λ lease. lease6_content lease.now) lease.entry)) }
 {
     match lease {
         None => Ok(None),
@@ -238,8 +243,11 @@ fn save<'a, W: Outside>(
     text: &mut Vec<u8>,
 ) -> Result<bool, NoMemory>
     requires { IsFileName name.now }
-    ensures does { IfOk result (λ done. Does (bringing name.now (Some bytes.now)) done (W.seen outside.old) (W.seen outside.new) text.old.items text.new.items) }
-    ensures begun { IfErr result (λ _. HasBegun (bringing name.now (Some bytes.now)) (W.seen outside.old) (W.seen outside.new)) }
+    ensures does { IfOk result
+        (λ done. Does (bringing name.now (Some bytes.now)) done (W.seen outside.old)
+        (W.seen outside.new) text.old.items text.new.items) }
+    ensures begun { IfErr result
+        (λ _. HasBegun (bringing name.now (Some bytes.now)) (W.seen outside.old) (W.seen outside.new)) }
     ensures waiting { (W.seen outside.new).waiting ≡ (W.seen outside.old).waiting }
 {
     let written = write(outside, name, bytes, text)?;
@@ -260,7 +268,9 @@ fn save<'a, W: Outside>(
 /// Removes a file and settles that. The first call that isn't done ends it.
 fn discard<W: Outside>(outside: &mut W, name: &str, text: &mut Vec<u8>) -> Result<bool, NoMemory>
     requires { IsFileName name.now }
-    ensures does { IfOk result (λ done. Does (bringing name.now None) done (W.seen outside.old) (W.seen outside.new) text.old.items text.new.items) }
+    ensures does { IfOk result
+        (λ done. Does (bringing name.now None) done (W.seen outside.old)
+        (W.seen outside.new) text.old.items text.new.items) }
     ensures begun { IfErr result (λ _. HasBegun (bringing name.now None) (W.seen outside.old) (W.seen outside.new)) }
     ensures waiting { (W.seen outside.new).waiting ≡ (W.seen outside.old).waiting }
 {
@@ -279,8 +289,11 @@ fn bring<'a, W: Outside>(
     text: &mut Vec<u8>,
 ) -> Result<bool, NoMemory>
     requires { IsFileName name.now }
-    ensures does { IfOk result (λ done. Does (bringing name.now (content_of wanted.now)) done (W.seen outside.old) (W.seen outside.new) text.old.items text.new.items) }
-    ensures begun { IfErr result (λ _. HasBegun (bringing name.now (content_of wanted.now)) (W.seen outside.old) (W.seen outside.new)) }
+    ensures does { IfOk result
+        (λ done. Does (bringing name.now (content_of wanted.now)) done (W.seen outside.old)
+        (W.seen outside.new) text.old.items text.new.items) }
+    ensures begun { IfErr result
+        (λ _. HasBegun (bringing name.now (content_of wanted.now)) (W.seen outside.old) (W.seen outside.new)) }
     ensures waiting { (W.seen outside.new).waiting ≡ (W.seen outside.old).waiting }
 {
     match wanted {
@@ -323,7 +336,9 @@ impl KeptFile {
         outside: &mut W,
         text: &mut Vec<u8>,
     ) -> Result<(), NoMemory>
-        ensures does { OnOk result (KeepsFile core.now.ifaces self.old self.new (W.seen outside.old) (W.seen outside.new) text.old.items text.new.items) }
+        ensures does { OnOk result
+            (KeepsFile core.now.ifaces self.old self.new (W.seen outside.old)
+            (W.seen outside.new) text.old.items text.new.items) }
         ensures begun { IfErr result (λ _. BeginsFile core.now.ifaces self.old (W.seen outside.old) (W.seen outside.new)) }
         ensures waiting { (W.seen outside.new).waiting ≡ (W.seen outside.old).waiting }
     {
@@ -347,7 +362,9 @@ fn keep_one<W: Outside>(
     text: &mut Vec<u8>,
 ) -> Result<(), NoMemory>
     requires { may_differ file.old.keeps touched ≡ false → IsKept core.now.ifaces file.old }
-    ensures does { OnOk result (KeepsFile core.now.ifaces file.old file.new (W.seen outside.old) (W.seen outside.new) text.old.items text.new.items) }
+    ensures does { OnOk result
+        (KeepsFile core.now.ifaces file.old file.new (W.seen outside.old)
+        (W.seen outside.new) text.old.items text.new.items) }
     ensures begun { IfErr result (λ _. BeginsFile core.now.ifaces file.old (W.seen outside.old) (W.seen outside.new)) }
     ensures waiting { (W.seen outside.new).waiting ≡ (W.seen outside.old).waiting }
 {
@@ -367,8 +384,11 @@ fn keep_each<W: Outside>(
     text: &mut Vec<u8>,
 ) -> Result<(), NoMemory>
     requires { AreKeptBut touched core.now.ifaces files.old }
-    ensures does { OnOk result (Does (keeping core.now.ifaces files.old) files.new (W.seen outside.old) (W.seen outside.new) text.old.items text.new.items) }
-    ensures begun { IfErr result (λ _. HasBegun (keeping core.now.ifaces files.old) (W.seen outside.old) (W.seen outside.new)) }
+    ensures does { OnOk result
+        (Does (keeping core.now.ifaces files.old) files.new (W.seen outside.old)
+        (W.seen outside.new) text.old.items text.new.items) }
+    ensures begun { IfErr result
+        (λ _. HasBegun (keeping core.now.ifaces files.old) (W.seen outside.old) (W.seen outside.new)) }
     ensures waiting { (W.seen outside.new).waiting ≡ (W.seen outside.old).waiting }
     ensures kept { OnOk result (AreKept core.now.ifaces files.new) }
     ensures count { OnOk result (length files.new ≡ length files.old) }
@@ -389,8 +409,11 @@ pub fn keep_all<W: Outside>(
     text: &mut Vec<u8>,
 ) -> Result<Vec<KeptFile>, NoMemory>
     requires { AreKeptBut touched core.now.ifaces files.items }
-    ensures does { IfOk result (λ kept. Does (keeping core.now.ifaces files.items) kept.items (W.seen outside.old) (W.seen outside.new) text.old.items text.new.items) }
-    ensures begun { IfErr result (λ _. HasBegun (keeping core.now.ifaces files.items) (W.seen outside.old) (W.seen outside.new)) }
+    ensures does { IfOk result
+        (λ kept. Does (keeping core.now.ifaces files.items) kept.items (W.seen outside.old)
+        (W.seen outside.new) text.old.items text.new.items) }
+    ensures begun { IfErr result
+        (λ _. HasBegun (keeping core.now.ifaces files.items) (W.seen outside.old) (W.seen outside.new)) }
     ensures waiting { (W.seen outside.new).waiting ≡ (W.seen outside.old).waiting }
     ensures kept { IfOk result (λ kept. AreKept core.now.ifaces kept.items) }
 {

@@ -90,7 +90,9 @@ pub fn keep_files<W: Outside>(
     text: &mut Vec<u8>,
 ) -> Result<KeptFiles, NoMemory>
     requires { AreKeptBut touched core.now.ifaces files }
-    ensures does { IfOk result (λ kept. Does (keeping core.now.ifaces files) kept (W.seen outside.old) (W.seen outside.new) text.old.items text.new.items) }
+    ensures does { IfOk result
+        (λ kept. Does (keeping core.now.ifaces files) kept (W.seen outside.old)
+        (W.seen outside.new) text.old.items text.new.items) }
     ensures begun { IfErr result (λ _. HasBegun (keeping core.now.ifaces files) (W.seen outside.old) (W.seen outside.new)) }
     ensures waiting { (W.seen outside.new).waiting ≡ (W.seen outside.old).waiting }
     ensures kept { IfOk result (λ kept. AreKept core.now.ifaces kept) }

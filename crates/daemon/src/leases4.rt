@@ -59,7 +59,8 @@ fn own_lease(spec: &IfSpec, lease: Lease4) -> Option<Lease4>
 /// The lease that the text of a file keeps for an interface.
 #[tactic(auto, using(crate::proofs::SpelledLeases::none_kept, crate::proofs::SpelledLeases::one_kept))]
 fn kept_in(alloc: Global, spec: &IfSpec, text: &[u8]) -> Result<Option<Lease4>, NoMemory>
-    ensures kept { IfOk result (λ kept. option_map lease_content kept ≡ option_and_then (own_lease spec.now) (lease_spelled text.now)) }
+    ensures kept { IfOk result
+        (λ kept. option_map lease_content kept ≡ option_and_then (own_lease spec.now) (lease_spelled text.now)) }
     ensures fits { IfOk result (λ kept. IfSome (option_map lease_content kept) FitsLease) }
 {
     match lease_of(alloc, text)? {
@@ -68,7 +69,8 @@ fn kept_in(alloc: Global, spec: &IfSpec, text: &[u8]) -> Result<Option<Lease4>, 
     }
 }
 
-/// The lease that a file keeps for an interface. One that isn't there, couldn't be read, or has another text keeps none.
+/// The lease that a file keeps for an interface. One that isn't there, couldn't be read, or has another text keeps
+/// none.
 fn kept_by(alloc: Global, spec: &IfSpec, got: &Got) -> Result<Option<Lease4>, NoMemory>
     ensures kept { IfOk result (λ kept. option_map lease_content kept ≡ kept_by spec.now (got_reading got.now)) }
     ensures fits { IfOk result (λ kept. IfSome (option_map lease_content kept) FitsLease) }
@@ -86,7 +88,9 @@ pub fn first_lease(
     spec: &IfSpec,
     read: &Option<Got>,
 ) -> Result<Option<Lease4>, NoMemory>
-    ensures kept { IfOk result (λ kept. option_map lease_content kept ≡ option_and_then (kept_by spec.now) (option_map got_reading read.now)) }
+    ensures kept { IfOk result
+        (λ kept. option_map lease_content kept
+        ≡ option_and_then (kept_by spec.now) (option_map got_reading read.now)) }
     ensures fits { IfOk result (λ kept. IfSome (option_map lease_content kept) FitsLease) }
 {
     match read {

@@ -42,7 +42,8 @@ fn own_lease(spec: &IfSpec, lease: Lease6) -> Option<Lease6>
 /// The lease that the text of a file keeps for an interface.
 #[tactic(auto, using(crate::proofs::SpelledLeases6::none_kept6, crate::proofs::SpelledLeases6::one_kept6))]
 fn kept_in(alloc: Global, spec: &IfSpec, text: &[u8]) -> Result<Option<Lease6>, NoMemory>
-    ensures kept { IfOk result (λ kept. option_map lease6_content kept ≡ option_and_then (own_lease6 spec.now) (lease6_spelled text.now)) }
+    ensures kept { IfOk result
+        (λ kept. option_map lease6_content kept ≡ option_and_then (own_lease6 spec.now) (lease6_spelled text.now)) }
     ensures fits { IfOk result (λ kept. IfSome (option_map lease6_content kept) HasText6) }
 {
     match lease_of(alloc, text)? {
@@ -51,7 +52,8 @@ fn kept_in(alloc: Global, spec: &IfSpec, text: &[u8]) -> Result<Option<Lease6>, 
     }
 }
 
-/// The lease that a file keeps for an interface. One that isn't there, couldn't be read, or has another text keeps none.
+/// The lease that a file keeps for an interface. One that isn't there, couldn't be read, or has another text keeps
+/// none.
 fn kept_by(alloc: Global, spec: &IfSpec, got: &Got) -> Result<Option<Lease6>, NoMemory>
     ensures kept { IfOk result (λ kept. option_map lease6_content kept ≡ kept6_by spec.now (got_reading got.now)) }
     ensures fits { IfOk result (λ kept. IfSome (option_map lease6_content kept) HasText6) }
@@ -69,7 +71,9 @@ pub fn first_lease6(
     spec: &IfSpec,
     read: &Option<Got>,
 ) -> Result<Option<Lease6>, NoMemory>
-    ensures kept { IfOk result (λ kept. option_map lease6_content kept ≡ option_and_then (kept6_by spec.now) (option_map got_reading read.now)) }
+    ensures kept { IfOk result
+        (λ kept. option_map lease6_content kept
+        ≡ option_and_then (kept6_by spec.now) (option_map got_reading read.now)) }
     ensures fits { IfOk result (λ kept. IfSome (option_map lease6_content kept) HasText6) }
 {
     match read {

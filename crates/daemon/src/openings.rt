@@ -36,8 +36,12 @@ fn remove_all<W: Outside>(
     text: &mut Vec<u8>,
 ) -> Result<(), NoMemory>
     requires { AllByRecursion (λ name. IsFileName (string_bytes name)) names.now }
-    ensures does { IfOk result (λ x. Does (clearing_listed (Some (map string_bytes names.now))) x (W.seen outside.old) (W.seen outside.new) text.old.items text.new.items) }
-    ensures begun { IfErr result (λ _. HasBegun (clearing_listed (Some (map string_bytes names.now))) (W.seen outside.old) (W.seen outside.new)) }
+    ensures does { IfOk result
+        (λ x. Does (clearing_listed (Some (map string_bytes names.now))) x (W.seen outside.old)
+        (W.seen outside.new) text.old.items text.new.items) }
+    ensures begun { IfErr result
+        (λ _. HasBegun (clearing_listed (Some (map string_bytes names.now))) (W.seen outside.old)
+        (W.seen outside.new)) }
     ensures waiting { (W.seen outside.new).waiting ≡ (W.seen outside.old).waiting }
 {
     if names.is_empty() {
@@ -52,7 +56,8 @@ fn remove_all<W: Outside>(
 
 /// Clears the files that an interrupted save left.
 fn clear<W: Outside>(alloc: Global, outside: &mut W, text: &mut Vec<u8>) -> Result<(), NoMemory>
-    ensures does { IfOk result (λ x. Does clearing x (W.seen outside.old) (W.seen outside.new) text.old.items text.new.items) }
+    ensures does { IfOk result
+        (λ x. Does clearing x (W.seen outside.old) (W.seen outside.new) text.old.items text.new.items) }
     ensures begun { IfErr result (λ _. HasBegun clearing (W.seen outside.old) (W.seen outside.new)) }
     ensures waiting { (W.seen outside.new).waiting ≡ (W.seen outside.old).waiting }
 {
@@ -78,8 +83,11 @@ pub fn open<W: Outside>(
     ensures child { IfOk result (λ life. KnowsChild life.hooks (W.seen outside.new)) }
     ensures orderly { IfOk result IsOrderly }
     ensures going { IfOk result (λ life. is_over (life_of life) ≡ false) }
-    ensures made { IfOk result (λ life. MakesOpening managed.now specs.now begin (life_of life) (W.seen outside.old) (W.seen outside.new) text.old.items text.new.items) }
-    ensures begun { IfErr result (λ _. HasBegun (opening_asks managed.now specs.now begin) (W.seen outside.old) (W.seen outside.new)) }
+    ensures made { IfOk result
+        (λ life. MakesOpening managed.now specs.now begin (life_of life) (W.seen outside.old)
+        (W.seen outside.new) text.old.items text.new.items) }
+    ensures begun { IfErr result
+        (λ _. HasBegun (opening_asks managed.now specs.now begin) (W.seen outside.old) (W.seen outside.new)) }
 {
     say(&TranscriptLine::Start(begin), text)?;
     clear(alloc, outside, text)?;

@@ -19,7 +19,8 @@ use net_types::{Failed, IfIndex};
 use std::alloc::Global;
 use world::{Begin, DeviceAnswer, HookJob, HostRow, NoMemory, Poll, Wake};
 
-/// All that a life runs over: each call asks one device once. For want of memory alone nothing changes, nor do the counts of faults.
+/// All that a life runs over: each call asks one device once. For want of memory alone nothing changes, nor do the
+/// counts of faults.
 pub trait Outside {
     /// What the devices tell, which of their calls fail, where that is told, and how many failed.
     ghost seen: { Self → Seen };
@@ -60,7 +61,8 @@ pub trait Outside {
     /// The names of the asides, in byte order; `None` where listing failed.
     fn list_asides(&mut self, alloc: Global) -> Result<Option<Vec<String>>, NoMemory>
         ensures one { IfOk result (λ names. One ListAsides (names_of names) (seen self.old) (seen self.new)) }
-        ensures fit { IfOk result (λ names. IfSome names (λ v. AllByRecursion (λ name. IsFileName (string_bytes name)) v.items)) }
+        ensures fit { IfOk result
+            (λ names. IfSome names (λ v. AllByRecursion (λ name. IsFileName (string_bytes name)) v.items)) }
         ensures waiting { (seen self.new).waiting ≡ (seen self.old).waiting }
         ensures memory { IfErr result (λ _. seen self.new ≡ seen self.old) };
 

@@ -34,8 +34,12 @@ fn offer<W: Outside>(
     sending: &Sending,
     text: &mut Vec<u8>,
 ) -> Result<bool, NoMemory>
-    ensures does { IfOk result (λ taken. Does (Then (Offer sending.now.iface.number sending.now.bytes.items) Done) taken (W.seen outside.old) (W.seen outside.new) text.old.items text.new.items) }
-    ensures begun { IfErr result (λ _. HasBegun (Then (Offer sending.now.iface.number sending.now.bytes.items) Done) (W.seen outside.old) (W.seen outside.new)) }
+    ensures does { IfOk result
+        (λ taken. Does (Then (Offer sending.now.iface.number sending.now.bytes.items) Done) taken
+        (W.seen outside.old) (W.seen outside.new) text.old.items text.new.items) }
+    ensures begun { IfErr result
+        (λ _. HasBegun (Then (Offer sending.now.iface.number sending.now.bytes.items) Done) (W.seen outside.old)
+        (W.seen outside.new)) }
     ensures waiting { (W.seen outside.new).waiting ≡ (W.seen outside.old).waiting }
 {
     let taken = outside.offer(sending.iface, &sending.bytes)?;
@@ -57,8 +61,11 @@ pub fn offer_all<W: Outside>(
     text: &mut Vec<u8>,
 ) -> Result<u64, NoMemory>
     requires { AllByRecursion IsOnInterface (map sending_of sends.now) }
-    ensures does { IfOk result (λ set. Does (offering (map sending_of sends.now) unsent) set (W.seen outside.old) (W.seen outside.new) text.old.items text.new.items) }
-    ensures begun { IfErr result (λ _. HasBegun (offering (map sending_of sends.now) unsent) (W.seen outside.old) (W.seen outside.new)) }
+    ensures does { IfOk result
+        (λ set. Does (offering (map sending_of sends.now) unsent) set (W.seen outside.old)
+        (W.seen outside.new) text.old.items text.new.items) }
+    ensures begun { IfErr result
+        (λ _. HasBegun (offering (map sending_of sends.now) unsent) (W.seen outside.old) (W.seen outside.new)) }
     ensures waiting { (W.seen outside.new).waiting ≡ (W.seen outside.old).waiting }
 {
     match sends {

@@ -63,10 +63,18 @@ fn take_turns<O: Sink, W: Outside>(
     requires child { KnowsChild life.hooks (W.seen outside.old) }
     requires going { is_over (life_of life) ≡ false }
     ensures child { IfOk result (λ last. KnowsChild last.hooks (W.seen outside.new)) }
-    ensures ok { IfOk result (λ last. Ends turns managed.now (life_of life) (W.seen outside.old) (O.written out.old) (life_of last) (W.seen outside.new) (O.written out.new)) }
-    ensures cut { IfErr result (λ end. BreaksOff end turns managed.now (life_of life) (W.seen outside.old) (W.seen outside.new) (O.written out.old) (O.written out.new)) }
-    ensures later { IfOk result (λ _. (O.faults out.old ≤ O.faults out.new) × ((W.seen outside.old).waiting.faults ≤ (W.seen outside.new).waiting.faults)) }
-    ensures cause { IfErr result (λ end. HasLifeCause end (O.faults out.old) (O.faults out.new) (W.seen outside.old).waiting.faults (W.seen outside.new).waiting.faults) }
+    ensures ok { IfOk result
+        (λ last. Ends turns managed.now (life_of life) (W.seen outside.old) (O.written out.old) (life_of last)
+        (W.seen outside.new) (O.written out.new)) }
+    ensures cut { IfErr result
+        (λ end. BreaksOff end turns managed.now (life_of life) (W.seen outside.old) (W.seen outside.new)
+        (O.written out.old) (O.written out.new)) }
+    ensures later { IfOk result
+        (λ _. (O.faults out.old ≤ O.faults out.new)
+        × ((W.seen outside.old).waiting.faults ≤ (W.seen outside.new).waiting.faults)) }
+    ensures cause { IfErr result
+        (λ end. HasLifeCause end (O.faults out.old) (O.faults out.new) (W.seen outside.old).waiting.faults
+        (W.seen outside.new).waiting.faults) }
     ensures foretold { (W.seen outside.old).waiting.failing ≡ Some [] → result ≢ Err ServeEnd.LinkFault }
     ensures many { result ≡ Err ServeEnd.TurnsOver → AreManyTurns (W.seen outside.old) turns }
     ensures steady { O.never_fails out.old ≡ true → O.faults out.new ≡ O.faults out.old }
@@ -85,9 +93,12 @@ fn take_turns<O: Sink, W: Outside>(
 
 fn begin<W: Outside>(outside: &mut W) -> Result<Begin, ServeEnd>
     ensures child { IfOk result (λ _. (W.seen outside.new).waiting.child ≡ (W.seen outside.old).waiting.child) }
-    ensures ok { IfOk result (λ begin. ((W.seen outside.old).waiting.faults ≤ (W.seen outside.new).waiting.faults) × BeginsThere (W.seen outside.old) (W.seen outside.new) (Ok begin)) }
+    ensures ok { IfOk result
+        (λ begin. ((W.seen outside.old).waiting.faults ≤ (W.seen outside.new).waiting.faults)
+        × BeginsThere (W.seen outside.old) (W.seen outside.new) (Ok begin)) }
     ensures failed { IfErr result (λ end. BeginFails end (W.seen outside.old) (W.seen outside.new)) }
-    ensures cause { IfErr result (λ end. HasServeCause end 0 0 (W.seen outside.old).waiting.faults (W.seen outside.new).waiting.faults) }
+    ensures cause { IfErr result
+        (λ end. HasServeCause end 0 0 (W.seen outside.old).waiting.faults (W.seen outside.new).waiting.faults) }
     ensures foretold { (W.seen outside.old).waiting.failing ≡ Some [] → result ≢ Err ServeEnd.LinkFault }
 {
     match outside.begin() {
@@ -107,10 +118,18 @@ fn live_on<O: Sink, W: Outside>(
 ) -> Result<(), ServeEnd>
     requires managed { AreManaged managed.now }
     requires child { (W.seen outside.old).waiting.child ≡ false }
-    ensures ok { IfOk result (λ _. Served turns managed.now specs.now (W.seen outside.old) (W.seen outside.new) (O.written out.old) (O.written out.new)) }
-    ensures cut { IfErr result (λ end. Leaves end turns managed.now specs.now (W.seen outside.old) (W.seen outside.new) (O.written out.old) (O.written out.new)) }
-    ensures later { IfOk result (λ _. (O.faults out.old ≤ O.faults out.new) × ((W.seen outside.old).waiting.faults ≤ (W.seen outside.new).waiting.faults)) }
-    ensures cause { IfErr result (λ end. HasLifeCause end (O.faults out.old) (O.faults out.new) (W.seen outside.old).waiting.faults (W.seen outside.new).waiting.faults) }
+    ensures ok { IfOk result
+        (λ _. Served turns managed.now specs.now (W.seen outside.old) (W.seen outside.new) (O.written out.old)
+        (O.written out.new)) }
+    ensures cut { IfErr result
+        (λ end. Leaves end turns managed.now specs.now (W.seen outside.old) (W.seen outside.new) (O.written out.old)
+        (O.written out.new)) }
+    ensures later { IfOk result
+        (λ _. (O.faults out.old ≤ O.faults out.new)
+        × ((W.seen outside.old).waiting.faults ≤ (W.seen outside.new).waiting.faults)) }
+    ensures cause { IfErr result
+        (λ end. HasLifeCause end (O.faults out.old) (O.faults out.new) (W.seen outside.old).waiting.faults
+        (W.seen outside.new).waiting.faults) }
     ensures foretold { (W.seen outside.old).waiting.failing ≡ Some [] → result ≢ Err ServeEnd.LinkFault }
     ensures many { result ≡ Err ServeEnd.TurnsOver → AreManyTurns (W.seen outside.old) turns }
     ensures steady { O.never_fails out.old ≡ true → O.faults out.new ≡ O.faults out.old }
@@ -137,10 +156,14 @@ pub fn serve<O: Sink, W: Outside>(
 ) -> ServeEnd
     requires managed { AreManaged managed.now }
     requires child { (W.seen live.old).waiting.child ≡ false }
-    ensures served { result ≡ ServeEnd.End → Served turns managed.now specs.now (W.seen live.old) (W.seen live.new) (O.written out.old) (O.written out.new) }
-    ensures cut { Leaves result turns managed.now specs.now (W.seen live.old) (W.seen live.new) (O.written out.old) (O.written out.new) }
+    ensures served { result ≡ ServeEnd.End
+        → Served turns managed.now specs.now (W.seen live.old) (W.seen live.new) (O.written out.old)
+        (O.written out.new) }
+    ensures cut { Leaves result turns managed.now specs.now (W.seen live.old) (W.seen live.new) (O.written out.old)
+        (O.written out.new) }
     ensures files { LeavesFiled managed.now specs.now (W.seen live.old) (W.seen live.new) }
-    ensures cause { HasEndCause result (O.faults out.old) (O.faults out.new) (W.seen live.old).waiting.faults (W.seen live.new).waiting.faults }
+    ensures cause { HasEndCause result (O.faults out.old) (O.faults out.new) (W.seen live.old).waiting.faults
+        (W.seen live.new).waiting.faults }
     ensures foretold { (W.seen live.old).waiting.failing ≡ Some [] → result ≢ ServeEnd.LinkFault }
     ensures many { result ≡ ServeEnd.TurnsOver → AreManyTurns (W.seen live.old) turns }
     ensures steady { O.never_fails out.old ≡ true → O.faults out.new ≡ O.faults out.old }

@@ -37,9 +37,12 @@ pub fn list<W: Outside>(
     outside: &mut W,
     text: &mut Vec<u8>,
 ) -> Result<Option<Vec<String>>, NoMemory>
-    ensures does { IfOk result (λ names. Does (Then ListAsides Done) (names_of names) (W.seen outside.old) (W.seen outside.new) text.old.items text.new.items) }
+    ensures does { IfOk result
+        (λ names. Does (Then ListAsides Done) (names_of names) (W.seen outside.old)
+        (W.seen outside.new) text.old.items text.new.items) }
     ensures begun { IfErr result (λ _. HasBegun (Then ListAsides Done) (W.seen outside.old) (W.seen outside.new)) }
-    ensures fit { IfOk result (λ names. IfSome names (λ v. AllByRecursion (λ name. IsFileName (string_bytes name)) v.items)) }
+    ensures fit { IfOk result
+        (λ names. IfSome names (λ v. AllByRecursion (λ name. IsFileName (string_bytes name)) v.items)) }
     ensures waiting { (W.seen outside.new).waiting ≡ (W.seen outside.old).waiting }
 {
     let listed = outside.list_asides(alloc)?;
@@ -50,8 +53,11 @@ pub fn list<W: Outside>(
 /// Removes a file.
 pub fn remove<W: Outside>(outside: &mut W, name: &str, text: &mut Vec<u8>) -> Result<bool, NoMemory>
     requires { IsFileName name.now }
-    ensures does { IfOk result (λ done. Does (Then (RemoveFile name.now) Done) done (W.seen outside.old) (W.seen outside.new) text.old.items text.new.items) }
-    ensures begun { IfErr result (λ _. HasBegun (Then (RemoveFile name.now) Done) (W.seen outside.old) (W.seen outside.new)) }
+    ensures does { IfOk result
+        (λ done. Does (Then (RemoveFile name.now) Done) done (W.seen outside.old)
+        (W.seen outside.new) text.old.items text.new.items) }
+    ensures begun { IfErr result
+        (λ _. HasBegun (Then (RemoveFile name.now) Done) (W.seen outside.old) (W.seen outside.new)) }
     ensures waiting { (W.seen outside.new).waiting ≡ (W.seen outside.old).waiting }
 {
     let done = outside.remove(name)?;
@@ -61,7 +67,9 @@ pub fn remove<W: Outside>(outside: &mut W, name: &str, text: &mut Vec<u8>) -> Re
 
 /// Settles what was put in place or removed.
 pub fn settle<W: Outside>(outside: &mut W, text: &mut Vec<u8>) -> Result<bool, NoMemory>
-    ensures does { IfOk result (λ done. Does (Then Settle Done) done (W.seen outside.old) (W.seen outside.new) text.old.items text.new.items) }
+    ensures does { IfOk result
+        (λ done. Does (Then Settle Done) done (W.seen outside.old)
+        (W.seen outside.new) text.old.items text.new.items) }
     ensures begun { IfErr result (λ _. HasBegun (Then Settle Done) (W.seen outside.old) (W.seen outside.new)) }
     ensures waiting { (W.seen outside.new).waiting ≡ (W.seen outside.old).waiting }
 {
@@ -96,7 +104,9 @@ pub fn read<W: Outside>(
     text: &mut Vec<u8>,
 ) -> Result<Got, NoMemory>
     requires { IsFileName name.now }
-    ensures does { IfOk result (λ got. Does (Then (Read name.now) Done) (got_reading got) (W.seen outside.old) (W.seen outside.new) text.old.items text.new.items) }
+    ensures does { IfOk result
+        (λ got. Does (Then (Read name.now) Done) (got_reading got) (W.seen outside.old)
+        (W.seen outside.new) text.old.items text.new.items) }
     ensures begun { IfErr result (λ _. HasBegun (Then (Read name.now) Done) (W.seen outside.old) (W.seen outside.new)) }
     ensures waiting { (W.seen outside.new).waiting ≡ (W.seen outside.old).waiting }
 {
@@ -113,8 +123,11 @@ pub fn write<'a, W: Outside>(
     text: &mut Vec<u8>,
 ) -> Result<bool, NoMemory>
     requires { IsFileName name.now }
-    ensures does { IfOk result (λ done. Does (Then (WriteAside name.now bytes.now) Done) done (W.seen outside.old) (W.seen outside.new) text.old.items text.new.items) }
-    ensures begun { IfErr result (λ _. HasBegun (Then (WriteAside name.now bytes.now) Done) (W.seen outside.old) (W.seen outside.new)) }
+    ensures does { IfOk result
+        (λ done. Does (Then (WriteAside name.now bytes.now) Done) done (W.seen outside.old)
+        (W.seen outside.new) text.old.items text.new.items) }
+    ensures begun { IfErr result
+        (λ _. HasBegun (Then (WriteAside name.now bytes.now) Done) (W.seen outside.old) (W.seen outside.new)) }
     ensures waiting { (W.seen outside.new).waiting ≡ (W.seen outside.old).waiting }
 {
     let done = outside.write_aside(name, bytes)?;
@@ -125,8 +138,11 @@ pub fn write<'a, W: Outside>(
 /// Brings the aside of a file to rest.
 pub fn sync<W: Outside>(outside: &mut W, name: &str, text: &mut Vec<u8>) -> Result<bool, NoMemory>
     requires { IsFileName name.now }
-    ensures does { IfOk result (λ done. Does (Then (SyncAside name.now) Done) done (W.seen outside.old) (W.seen outside.new) text.old.items text.new.items) }
-    ensures begun { IfErr result (λ _. HasBegun (Then (SyncAside name.now) Done) (W.seen outside.old) (W.seen outside.new)) }
+    ensures does { IfOk result
+        (λ done. Does (Then (SyncAside name.now) Done) done (W.seen outside.old)
+        (W.seen outside.new) text.old.items text.new.items) }
+    ensures begun { IfErr result
+        (λ _. HasBegun (Then (SyncAside name.now) Done) (W.seen outside.old) (W.seen outside.new)) }
     ensures waiting { (W.seen outside.new).waiting ≡ (W.seen outside.old).waiting }
 {
     let done = outside.sync_aside(name)?;
@@ -137,8 +153,11 @@ pub fn sync<W: Outside>(outside: &mut W, name: &str, text: &mut Vec<u8>) -> Resu
 /// Puts the aside of a file in its place.
 pub fn rename<W: Outside>(outside: &mut W, name: &str, text: &mut Vec<u8>) -> Result<bool, NoMemory>
     requires { IsFileName name.now }
-    ensures does { IfOk result (λ done. Does (Then (RenameAside name.now) Done) done (W.seen outside.old) (W.seen outside.new) text.old.items text.new.items) }
-    ensures begun { IfErr result (λ _. HasBegun (Then (RenameAside name.now) Done) (W.seen outside.old) (W.seen outside.new)) }
+    ensures does { IfOk result
+        (λ done. Does (Then (RenameAside name.now) Done) done (W.seen outside.old)
+        (W.seen outside.new) text.old.items text.new.items) }
+    ensures begun { IfErr result
+        (λ _. HasBegun (Then (RenameAside name.now) Done) (W.seen outside.old) (W.seen outside.new)) }
     ensures waiting { (W.seen outside.new).waiting ≡ (W.seen outside.old).waiting }
 {
     let done = outside.rename_aside(name)?;

@@ -40,14 +40,16 @@ impl Table {
 
     /// What is known after a change that was asked for.
     pub fn after(self, done: bool) -> Table
-        ensures { (change : HostChange) (rows : List HostRow) → known_in result (applied change rows) ≡ known_with done change (known_in self rows) }
+        ensures { (change : HostChange) (rows : List HostRow)
+            → known_in result (applied change rows) ≡ known_with done change (known_in self rows) }
     {
         if done { self } else { Table::Unknown }
     }
 
     /// What is known once other rows are wanted.
     pub fn since(self, rows: Diff) -> Pending
-        ensures { (before wanted : List HostRow) → InRowOrder before → Leads rows before wanted → WasKnown result wanted (known_in self before) }
+        ensures { (before wanted : List HostRow) → InRowOrder before → Leads rows before wanted
+            → WasKnown result wanted (known_in self before) }
     {
         match self {
             Table::AsWanted => Pending::Changes(rows),

@@ -41,7 +41,8 @@ fn input(event: Event, bytes: &[u8]) -> TurnInput<'_>
 }
 
 fn say_turn(moment: u64, wake: Wake, bytes: &[u8], text: &mut Vec<u8>) -> Result<(), NoMemory>
-    ensures { OnOk result (Prints text.old.items text.new.items (lines.Turn moment wake.salt wake.event bytes.now ∷ [])) }
+    ensures { OnOk result
+        (Prints text.old.items text.new.items (lines.Turn moment wake.salt wake.event bytes.now ∷ [])) }
 {
     let line = TranscriptLine::Turn {
         at: moment,
@@ -70,8 +71,12 @@ pub fn turn<W: Outside>(
     ensures waiting { OnlyChild (W.seen outside.old).waiting (W.seen outside.new).waiting }
     ensures child { IfOk result (λ next. KnowsChild next.hooks (W.seen outside.new)) }
     ensures orderly { IfOk result IsOrderly }
-    ensures made { IfOk result (λ next. MakesTurn managed.now (life_of life) wake bytes.now (life_of next) (W.seen outside.old) (W.seen outside.new) text.old.items text.new.items) }
-    ensures begun { IfErr result (λ _. HasBegun (turn_asks managed.now (life_of life) wake bytes.now) (W.seen outside.old) (W.seen outside.new)) }
+    ensures made { IfOk result
+        (λ next. MakesTurn managed.now (life_of life) wake bytes.now (life_of next) (W.seen outside.old)
+        (W.seen outside.new) text.old.items text.new.items) }
+    ensures begun { IfErr result
+        (λ _. HasBegun (turn_asks managed.now (life_of life) wake bytes.now) (W.seen outside.old)
+        (W.seen outside.new)) }
 {
     let Life {
         core,

@@ -18,7 +18,9 @@ use world::{DeviceAnswer, Event, NoMemory, Sink, Wake};
 
 /// Writes all the bytes.
 pub fn write_all<O: Sink>(out: &mut O, bytes: &[u8]) -> Result<(), ServeEnd>
-    ensures ok { IfOk result (λ _. (O.faults out.old ≤ O.faults out.new) × WritesBytes (O.written out.old) (O.written out.new) bytes.now) }
+    ensures ok { IfOk result
+        (λ _. (O.faults out.old ≤ O.faults out.new)
+        × WritesBytes (O.written out.old) (O.written out.new) bytes.now) }
     ensures some { IfErr result (λ _. WritesSome (O.written out.old) (O.written out.new) bytes.now) }
     ensures cause { IfErr result (λ end. HasServeCause end (O.faults out.old) (O.faults out.new) 0 0) }
     ensures memory { result ≡ Err ServeEnd.NoMemory → O.faults out.new ≡ O.faults out.old }
@@ -38,8 +40,10 @@ fn wait<W: Outside>(outside: &mut W, until: Option<u64>, buf: &mut [u8]) -> Resu
     ensures waits { IfOk result (λ wake. WaitsThere until (W.seen outside.old) (W.seen outside.new) buf.new (Ok wake)) }
     ensures failed { IfErr result (λ end. WaitFails end until (W.seen outside.old) (W.seen outside.new)) }
     ensures later { IfOk result (λ _. (W.seen outside.old).waiting.faults ≤ (W.seen outside.new).waiting.faults) }
-    ensures cause { IfErr result (λ end. HasServeCause end 0 0 (W.seen outside.old).waiting.faults (W.seen outside.new).waiting.faults) }
-    ensures memory { result ≡ Err ServeEnd.NoMemory → (W.seen outside.new).waiting.faults ≡ (W.seen outside.old).waiting.faults }
+    ensures cause { IfErr result
+        (λ end. HasServeCause end 0 0 (W.seen outside.old).waiting.faults (W.seen outside.new).waiting.faults) }
+    ensures memory { result ≡ Err ServeEnd.NoMemory
+        → (W.seen outside.new).waiting.faults ≡ (W.seen outside.old).waiting.faults }
     ensures foretold { (W.seen outside.old).waiting.failing ≡ Some [] → result ≢ Err ServeEnd.LinkFault }
     ensures failing { (W.seen outside.new).waiting.failing ≡ (W.seen outside.old).waiting.failing }
     ensures child { IfOk result (λ _. (W.seen outside.new).waiting.child ≡ (W.seen outside.old).waiting.child) }
@@ -113,10 +117,18 @@ pub fn one_turn<O: Sink, W: Outside>(
     requires child { KnowsChild life.hooks (W.seen outside.old) }
     requires going { is_over (life_of life) ≡ false }
     requires room { length buf.old ≡ 2048 }
-    ensures ok { IfOk result (λ woken. IsOneTurn managed.now (life_of life) (W.seen outside.old) (O.written out.old) woken (W.seen outside.new) (O.written out.new)) }
-    ensures cut { IfErr result (λ end. BreaksOff end 1 managed.now (life_of life) (W.seen outside.old) (W.seen outside.new) (O.written out.old) (O.written out.new)) }
-    ensures later { IfOk result (λ woken. (O.faults out.old ≤ O.faults out.new) × ((W.seen outside.old).waiting.faults ≤ (W.seen outside.new).waiting.faults)) }
-    ensures cause { IfErr result (λ end. HasServeCause end (O.faults out.old) (O.faults out.new) (W.seen outside.old).waiting.faults (W.seen outside.new).waiting.faults) }
+    ensures ok { IfOk result
+        (λ woken. IsOneTurn managed.now (life_of life) (W.seen outside.old) (O.written out.old) woken
+        (W.seen outside.new) (O.written out.new)) }
+    ensures cut { IfErr result
+        (λ end. BreaksOff end 1 managed.now (life_of life) (W.seen outside.old) (W.seen outside.new)
+        (O.written out.old) (O.written out.new)) }
+    ensures later { IfOk result
+        (λ woken. (O.faults out.old ≤ O.faults out.new)
+        × ((W.seen outside.old).waiting.faults ≤ (W.seen outside.new).waiting.faults)) }
+    ensures cause { IfErr result
+        (λ end. HasServeCause end (O.faults out.old) (O.faults out.new) (W.seen outside.old).waiting.faults
+        (W.seen outside.new).waiting.faults) }
     ensures foretold { (W.seen outside.old).waiting.failing ≡ Some [] → result ≢ Err ServeEnd.LinkFault }
     ensures failing { (W.seen outside.new).waiting.failing ≡ (W.seen outside.old).waiting.failing }
     ensures steady { O.never_fails out.old ≡ true → O.faults out.new ≡ O.faults out.old }

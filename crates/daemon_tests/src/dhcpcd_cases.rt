@@ -20,7 +20,8 @@ struct Failing {
     writes: &'static [u64],
 }
 
-/// Empty devices in memory, over which all interfaces have carrier at the moment 0. These events come, by their moments, and then nothing more.
+/// Empty devices in memory, over which all interfaces have carrier at the moment 0. These events come, by their
+/// moments, and then nothing more.
 fn devices(
     alloc: Global,
     events: &[(u64, Event)],

@@ -40,8 +40,8 @@ fn situation<'a>(reason: Reason, held_before: Held<'a>, held_now: Held<'a>) -> S
     }
 }
 
-/// A lease without end, with a value of each option that is kept. The second name of option 119 ends with a pointer, and the
-/// routes of option 121 are 192.168.9.0/24 and 0.0.0.0/0.
+/// A lease without end, with a value of each option that is kept. The second name of option 119 ends with a pointer,
+/// and the routes of option 121 are 192.168.9.0/24 and 0.0.0.0/0.
 const LEASE: &str = "dhcpcd-lease4 1
 interface eth0
 address 10.0.0.77/24

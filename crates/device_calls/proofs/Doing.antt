@@ -105,7 +105,8 @@ run_then : {A : Type 0} (ask : Ask) (next : AnswerTo ask → Asks A) (answer : A
     → IfSome old (λ world. IsRun (run (Then ask next) world) (made ask answer ∷ calls) result new)
 run_then ask next answer calls result None mid new p q = tt
 run_then {A} ask next answer calls result (Some world) mid new p q =
-    let here : IsRun (run (next answer) (world_with ask answer world)) calls result new = subst (λ (m : Option World). IfSome m (λ world. IsRun (run (next answer) world) calls result new)) p.1 q in
+    let here : IsRun (run (next answer) (world_with ask answer world)) calls result new =
+    subst (λ (m : Option World). IfSome m (λ world. IsRun (run (next answer) world) calls result new)) p.1 q in
     subst (λ (a : AnswerTo ask). IsRun (asked_first (made ask a) (run (next a) (world_with ask a world))) (made ask answer ∷ calls) result new) p.0
     (record { calls_are = ap (λ (cs : List Call). made ask answer ∷ cs) here.calls_are; result_is = here.result_is; world_is = here.world_is })
 
@@ -114,8 +115,10 @@ run_both : {A B : Type 0} (asks : Asks A) (more : A → Asks B) (a b : List Call
     → IfSome old (λ world. IsRun (run (after asks more) world) (a ++ b) y new)
 run_both asks more a b x y None mid new p q = tt
 run_both {A} {B} asks more a b x y (Some world) mid new p q =
-    let at_mid : IsRun (run (more x) (run asks world).world) b y new = subst (λ (m : Option World). IfSome m (λ world. IsRun (run (more x) world) b y new)) p.world_is q in
-    let here : IsRun (run (more (run asks world).result) (run asks world).world) b y new = subst (λ (z : A). IsRun (run (more z) (run asks world).world) b y new) p.result_is at_mid in
+    let at_mid : IsRun (run (more x) (run asks world).world) b y new =
+    subst (λ (m : Option World). IfSome m (λ world. IsRun (run (more x) world) b y new)) p.world_is q in
+    let here : IsRun (run (more (run asks world).result) (run asks world).world) b y new =
+    subst (λ (z : A). IsRun (run (more z) (run asks world).world) b y new) p.result_is at_mid in
     subst (λ (ran : Ran B). IsRun ran (a ++ b) y new) (sym (run_after asks more world))
     (record {
       calls_are = ap (λ (cs : List Call). cs ++ b) p.calls_are ∙ ap (λ (cs : List Call). (run asks world).calls ++ cs) here.calls_are;
@@ -151,7 +154,8 @@ did_after asks more a b x y old mid new p q = record {
 pub does_done : {A : Type 0} (x : A) (seen : Seen) (text : List ℕ) → Does (Done x) x seen seen text text
 does_done x seen text = record { calls = []; did = did_done x seen; lines = prints_none text }
 
-pub does_one : (ask : Ask) (answer : AnswerTo ask) (old new : Seen) (t u : List ℕ) → One ask answer old new → Prints t u (lines_of (made ask answer)) → Does (Then ask Done) answer old new t u
+pub does_one : (ask : Ask) (answer : AnswerTo ask) (old new : Seen) (t u : List ℕ) → One ask answer old new → Prints t u (lines_of (made ask answer))
+    → Does (Then ask Done) answer old new t u
 does_one ask answer old new t u one prints = record {
   calls = made ask answer ∷ [];
   did = did_then ask Done answer [] answer old new new one (did_done answer new);

@@ -15,11 +15,18 @@ pub prints_line : (t u : List ℕ) (l : Line) → u ≡ t ++ line_text l → Pri
 prints_line t u l e = record { appended = e ∙ ap (λ (x : List ℕ). t ++ x) (sym (append-nil (line_text l))) }
 
 pub prints_then : {t u v : List ℕ} {a b : List Line} → Prints t u a → Prints u v b → Prints t v (a ++ b)
-prints_then {t} {u} {v} {a} {b} p q = record { appended = q.appended ∙ ap (λ (x : List ℕ). x ++ lines_text b) p.appended ∙ append_assoc t (lines_text a) (lines_text b) ∙ ap (λ (x : List ℕ). t ++ x) (sym (flat_map-append line_text a b)) }
+prints_then {t} {u} {v} {a} {b} p q =
+    record {
+      appended = q.appended ∙ ap (λ (x : List ℕ). x ++ lines_text b) p.appended ∙ append_assoc t (lines_text a) (lines_text b)
+          ∙ ap (λ (x : List ℕ). t ++ x) (sym (flat_map-append line_text a b));
+    }
 
 pub prints_same : {t u : List ℕ} {a b : List Line} → Prints t u a → a ≡ b → Prints t u b
 prints_same {t} {u} {a} {b} p e = subst (λ (ls : List Line). Prints t u ls) e p
 
 -- a loop that prints a line for each row
-pub rows_more : (rows : List HostRow) (i : ℕ) (d : HostRow) (t u v : List ℕ) → i < length rows → Prints t u (map lines.Row (take i rows)) → Prints u v (lines.Row (get_or rows i d) ∷ []) → Prints t v (map lines.Row (take (i + 1) rows))
-rows_more rows i d t u v lt p q = prints_same (prints_then p q) (sym (map-append lines.Row (take i rows) (get_or rows i d ∷ [])) ∙ ap (λ (rs : List HostRow). map lines.Row rs) (sym (take_more rows i d lt)))
+pub rows_more : (rows : List HostRow) (i : ℕ) (d : HostRow) (t u v : List ℕ) → i < length rows → Prints t u (map lines.Row (take i rows))
+    → Prints u v (lines.Row (get_or rows i d) ∷ []) → Prints t v (map lines.Row (take (i + 1) rows))
+rows_more rows i d t u v lt p q =
+    prints_same (prints_then p q)
+    (sym (map-append lines.Row (take i rows) (get_or rows i d ∷ [])) ∙ ap (λ (rs : List HostRow). map lines.Row rs) (sym (take_more rows i d lt)))

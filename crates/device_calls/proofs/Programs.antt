@@ -7,7 +7,8 @@ use Rattle.device_calls.specs.Worlds.{World, Ran, asked_first, run, answer_to, w
 pub makes_done : {A : Type 0} (x : A) → Makes (Done x) [] x
 makes_done x = record { answers = tt; calls_are = refl; result_is = refl }
 
-pub makes_then : {A : Type 0} (ask : Ask) (next : AnswerTo ask → Asks A) (answer : AnswerTo ask) (calls : List Call) (result : A) → Makes (next answer) calls result → Makes (Then ask next) (made ask answer ∷ calls) result
+pub makes_then : {A : Type 0} (ask : Ask) (next : AnswerTo ask → Asks A) (answer : AnswerTo ask) (calls : List Call) (result : A)
+    → Makes (next answer) calls result → Makes (Then ask next) (made ask answer ∷ calls) result
 makes_then ask next answer calls result makes = record {
   answers = (answer, makes.answers);
   calls_are = ap (λ (cs : List Call). made ask answer ∷ cs) makes.calls_are;
@@ -31,12 +32,15 @@ unfolding join
 join_result (Done x) more first then_those = refl
 join_result (Then ask next) more first then_those = join_result (next first.0) more first.1 then_those
 
-pub makes_after : {A B : Type 0} (asks : Asks A) (more : A → Asks B) (a b : List Call) (x : A) (y : B) → Makes asks a x → Makes (more x) b y → Makes (after asks more) (a ++ b) y
+pub makes_after : {A B : Type 0} (asks : Asks A) (more : A → Asks B) (a b : List Call) (x : A) (y : B) → Makes asks a x → Makes (more x) b y
+    → Makes (after asks more) (a ++ b) y
 makes_after {A} {B} asks more a b x y p q =
     let q_here : Makes (more (result_with asks p.answers)) b y = subst (λ (z : A). Makes (more z) b y) p.result_is q in
     record {
       answers = join asks more p.answers q_here.answers;
-      calls_are = ap (λ (cs : List Call). cs ++ b) p.calls_are ∙ ap (λ (cs : List Call). calls_with asks p.answers ++ cs) q_here.calls_are ∙ sym (join_calls asks more p.answers q_here.answers);
+      calls_are =
+          ap (λ (cs : List Call). cs ++ b) p.calls_are ∙ ap (λ (cs : List Call). calls_with asks p.answers ++ cs) q_here.calls_are
+          ∙ sym (join_calls asks more p.answers q_here.answers);
       result_is = q_here.result_is ∙ sym (join_result asks more p.answers q_here.answers);
     }
 
@@ -49,7 +53,8 @@ pub record MakesBoth {A B : Type 0} (asks : Asks A) (more : A → Asks B) (calls
   pub makes_later : Makes (more between) later result
   pub calls_are : calls ≡ first ++ later
 
-pub makes_both : {A B : Type 0} (asks : Asks A) (more : A → Asks B) (calls : List Call) (result : B) → Makes (after asks more) calls result → MakesBoth asks more calls result
+pub makes_both : {A B : Type 0} (asks : Asks A) (more : A → Asks B) (calls : List Call) (result : B) → Makes (after asks more) calls result
+    → MakesBoth asks more calls result
 makes_both (Done x) more calls result makes = record {
   between = x;
   first = [];
@@ -74,6 +79,8 @@ makes_both {A} {B} (Then ask next) more calls result makes =
 abbrev pub ran_both : {A B : Type 0} → Ran A → Ran B → Ran B
 ran_both first then_that = record { calls = first.calls ++ then_that.calls; result = then_that.result; world = then_that.world }
 
-pub run_after : {A B : Type 0} (asks : Asks A) (more : A → Asks B) (world : World) → run (after asks more) world ≡ ran_both (run asks world) (run (more (run asks world).result) (run asks world).world)
+pub run_after : {A B : Type 0} (asks : Asks A) (more : A → Asks B) (world : World)
+    → run (after asks more) world ≡ ran_both (run asks world) (run (more (run asks world).result) (run asks world).world)
 run_after (Done x) more world = refl
-run_after (Then ask next) more world = ap (asked_first (made ask (answer_to ask world))) (run_after (next (answer_to ask world)) more (world_with ask (answer_to ask world) world))
+run_after (Then ask next) more world =
+    ap (asked_first (made ask (answer_to ask world))) (run_after (next (answer_to ask world)) more (world_with ask (answer_to ask world) world))

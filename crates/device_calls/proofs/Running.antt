@@ -30,7 +30,8 @@ coming_stays (Drop job) answer world = refl
 
 pub run_coming : {A : Type 0} (asks : Asks A) (world : World) → (run asks world).world.link.told.coming ≡ world.link.told.coming
 run_coming (Done x) world = refl
-run_coming (Then ask next) world = run_coming (next (answer_to ask world)) (world_with ask (answer_to ask world) world) ∙ coming_stays ask (answer_to ask world) world
+run_coming (Then ask next) world =
+    run_coming (next (answer_to ask world)) (world_with ask (answer_to ask world) world) ∙ coming_stays ask (answer_to ask world) world
 
 host_failing_stays : (ask : Ask) (answer : AnswerTo ask) (world : World) → (world_with ask answer world).host.failing ≡ world.host.failing
 host_failing_stays (Offer iface frame) taken world = refl

@@ -37,7 +37,8 @@ abbrev pub variable_line : Variable → Line
 variable_line variable = lines.Variable variable.name variable.value
 
 abbrev pub hook_lines : (number : ℕ) → HookCall → List Line
-hook_lines number (Started job done) = lines.HookStarted job.number job.reason (interface_of job) done ∷ map variable_line job.vars
+hook_lines number (Started job done) =
+    lines.HookStarted job.number job.reason (interface_of job) done ∷ map variable_line job.vars
 hook_lines number (Polled answer) = lines.HookPolled number answer ∷ []
 hook_lines number Abandoned = lines.HookAbandoned number ∷ []
 

@@ -9,7 +9,8 @@ use Rattle.world.specs.HookCalls.{HookCall, Job, Started, Polled, Abandoned}
 use Rattle.host_model.specs.declared.changes.HostChange.{HostChange}
 use Rattle.host_model.specs.HostTurn.{change_call}
 
--- a call of a device, with its answer: of hooks, with the number of the job; and a job that was dropped, of which no device was told
+-- a call of a device, with its answer: of hooks, with the number of the job; and a job that was dropped, of which no
+-- device was told
 pub data Call : Type 0 where
   Link : (call : LinkCall) → Call
   Host : (call : HostCall) → Call
@@ -17,9 +18,10 @@ pub data Call : Type 0 where
   Hook : (number : ℕ) → (call : HookCall) → Call
   Dropped : (job : Job) → Call
 
--- a question: to offer a frame; to list the host's rows or change one; to list asides and read a file; to write a file's aside,
--- sync it and put it in the file's place; to remove a file; to settle what was put in place or removed; to start a hook's job; to
--- poll the child of the job of a number, and to forget it; and, of no device, that a job is dropped
+-- a question: to offer a frame; to list the host's rows or change one; to list asides and read a file; to write a
+-- file's aside, sync it and put it in the file's place; to remove a file; to settle what was put in place or removed;
+-- to start a hook's job; to poll the child of the job of a number, and to forget it; and, of no device, that a job is
+-- dropped
 pub data Ask : Type 0 where
   Offer : (iface : ℕ) → (frame : List ℕ) → Ask
   ListRows : Ask

@@ -10,7 +10,8 @@ use Rattle.device_calls.specs.Printing.{Prints}
 -- one question was asked, and answered so; where all devices tell, it is the answer that they foretold
 pub record One (ask : Ask) (answer : AnswerTo ask) (old new : Seen) : Type 0 where
   pub tells : Tells old new (made ask answer ∷ [])
-  pub foretold : IfSome (world_of old) (λ world. (answer ≡ answer_to ask world) × (world_of new ≡ Some (world_with ask answer world)))
+  pub foretold : IfSome (world_of old)
+      (λ world. (answer ≡ answer_to ask world) × (world_of new ≡ Some (world_with ask answer world)))
 
 pub record IsRun {A : Type 0} (ran : Ran A) (calls : List Call) (result : A) (new : Option World) : Type 0 where
   pub calls_are : calls ≡ ran.calls

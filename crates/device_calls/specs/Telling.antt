@@ -14,8 +14,9 @@ Adds (Some old) (Some new) calls = new ≡ old ++ calls
 abbrev pub TellsCalls : {T F C : Type 0} → (T → List C) → Device T F → Device T F → List C → Type 0
 TellsCalls calls_in old new calls = Adds (option_map calls_in old.told) (option_map calls_in new.told) calls
 
--- Each device that tells its calls tells those that are its own, and no other; and no life was to begin. The store answered its
--- own truly and left its files as it answered, whether or not it is told which fail; each device counted those that failed.
+-- Each device that tells its calls tells those that are its own, and no other; and no life was to begin. The store
+-- answered its own truly and left its files as it answered, whether or not it is told which fail; each device counted
+-- those that failed.
 pub record Tells (old new : Seen) (calls : List Call) : Type 0 where
   pub link : TellsCalls (λ told. told.calls) old.link new.link (flat_map link_call calls)
   pub host : TellsCalls (λ told. told.calls) old.host new.host (flat_map host_call calls)

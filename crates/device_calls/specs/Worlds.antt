@@ -1,4 +1,5 @@
--- What devices tell, and what they make of questions where all of them tell what they hold and which of their calls fail.
+-- What devices tell, and what they make of questions where all of them tell what they hold and which of their calls
+-- fail.
 use Rattle.std.specs.Prelude.{ℕ, ◌+◌, Bool, not, if◌then◌else◌, List, [], ◌∷◌, length, Option, Some, None}
 use Rattle.world.specs.Causes.{has_number}
 use Rattle.world.specs.LinkCalls.{LinkTold, offered}
@@ -19,8 +20,8 @@ pub record Device (T F : Type 0) : Type 0 where
   pub failing : Option F
   pub faults : ℕ
 
--- how often a life was to begin, how many calls of `begin` and `wait` failed, which waits fail, where that is told, and whether a
--- hook's child runs
+-- how often a life was to begin, how many calls of `begin` and `wait` failed, which waits fail, where that is told, and
+-- whether a hook's child runs
 pub record Waiting : Type 0 where
   pub begins : ℕ
   pub faults : ℕ
@@ -54,8 +55,10 @@ told_from (Some told) (Some failing) = Some (record { told = told; failing = fai
 abbrev pub told_of : {T F : Type 0} → Device T F → Option (Told T F)
 told_of device = told_from device.told device.failing
 
-abbrev pub world_from : Option (Told LinkTold (List ℕ)) → Option (Told HostTold (List ℕ)) → Option (Told StoreTold StoreFails) → Option (Told HooksTold (List ℕ)) → Option World
-world_from (Some link) (Some host) (Some store) (Some hooks) = Some (record { link = link; host = host; store = store; hooks = hooks })
+abbrev pub world_from : Option (Told LinkTold (List ℕ)) → Option (Told HostTold (List ℕ))
+    → Option (Told StoreTold StoreFails) → Option (Told HooksTold (List ℕ)) → Option World
+world_from (Some link) (Some host) (Some store) (Some hooks) =
+    Some (record { link = link; host = host; store = store; hooks = hooks })
 world_from None host store hooks = None
 world_from (Some link) None store hooks = None
 world_from (Some link) (Some host) None hooks = None
@@ -87,7 +90,8 @@ answer_to (Offer iface frame) world = not (fails_send world.link)
 answer_to ListRows world = if fails_host world.host then None else Some world.host.told.rows
 answer_to (Change change) world = not (fails_host world.host)
 answer_to ListAsides world = if fails_store world.store then None else Some (asides world.store.told.files)
-answer_to (Read name) world = if fails_store world.store then Unread else reading_of (file_at name world.store.told.files)
+answer_to (Read name) world =
+    if fails_store world.store then Unread else reading_of (file_at name world.store.told.files)
 answer_to (WriteAside name bytes) world = not (fails_store world.store)
 answer_to (SyncAside name) world = not (fails_store world.store)
 answer_to (RenameAside name) world = not (fails_renaming name world.store)
@@ -100,14 +104,17 @@ answer_to (Drop job) world = tt
 
 -- a device after a call that was answered so
 abbrev pub host_with : HostChange → Bool → HostTold → HostTold
-host_with change done told = host_answered (change_call change done) (if done then applied change told.rows else told.rows) told
+host_with change done told =
+    host_answered (change_call change done) (if done then applied change told.rows else told.rows) told
 
 -- a call that changes the files where it was done
-abbrev pub store_changed : (List StoreFile → List StoreFile) → (Bool → StoreCall) → (done : Bool) → StoreTold → StoreTold
+abbrev pub store_changed : (List StoreFile → List StoreFile) → (Bool → StoreCall) → (done : Bool) → StoreTold
+    → StoreTold
 store_changed change call done told = store_answered (call done) (if done then change told.files else told.files) told
 
 abbrev pub store_written : (name bytes : List ℕ) → Bool → StoreTold → StoreTold
-store_written name bytes = store_changed (put_file (record { name = aside_of name; bytes = bytes })) (WroteAside name bytes)
+store_written name bytes =
+    store_changed (put_file (record { name = aside_of name; bytes = bytes })) (WroteAside name bytes)
 
 abbrev pub store_synced : (name : List ℕ) → Bool → StoreTold → StoreTold
 store_synced name = store_changed (λ files. files) (SyncedAside name)
@@ -134,13 +141,16 @@ abbrev pub world_with : (ask : Ask) → AnswerTo ask → World → World
 world_with (Offer iface frame) taken world = with_link (offered iface frame taken world.link.told) world
 world_with ListRows rows world = with_host (host_answered (Listed rows) world.host.told.rows world.host.told) world
 world_with (Change change) done world = with_host (host_with change done world.host.told) world
-world_with ListAsides names world = with_store (store_answered (ListedAsides names) world.store.told.files world.store.told) world
-world_with (Read name) reading world = with_store (store_answered (ReadFile name reading) world.store.told.files world.store.told) world
+world_with ListAsides names world =
+    with_store (store_answered (ListedAsides names) world.store.told.files world.store.told) world
+world_with (Read name) reading world =
+    with_store (store_answered (ReadFile name reading) world.store.told.files world.store.told) world
 world_with (WriteAside name bytes) done world = with_store (store_written name bytes done world.store.told) world
 world_with (SyncAside name) done world = with_store (store_synced name done world.store.told) world
 world_with (RenameAside name) done world = with_store (store_renamed name done world.store.told) world
 world_with (RemoveFile name) done world = with_store (store_without name done world.store.told) world
-world_with Settle done world = with_store (store_answered (SettledFiles done) world.store.told.files world.store.told) world
+world_with Settle done world =
+    with_store (store_answered (SettledFiles done) world.store.told.files world.store.told) world
 world_with (Start job) done world = with_hooks (hooks_answered (Started job done) world.hooks.told) world
 world_with (Poll number) answer world = with_hooks (polled world.hooks.told) world
 world_with (Abandon number) answer world = with_hooks (hooks_answered Abandoned world.hooks.told) world
@@ -159,4 +169,6 @@ asked_first call ran = record ran { calls = call ∷ ran.calls }
 -- what comes of the questions
 abbrev pub run : {A : Type 0} → Asks A → World → Ran A
 run (Done x) world = record { calls = []; result = x; world = world }
-run (Then ask next) world = asked_first (made ask (answer_to ask world)) (run (next (answer_to ask world)) (world_with ask (answer_to ask world) world))
+run (Then ask next) world =
+    asked_first (made ask (answer_to ask world))
+    (run (next (answer_to ask world)) (world_with ask (answer_to ask world) world))

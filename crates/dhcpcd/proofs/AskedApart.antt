@@ -15,7 +15,8 @@ pub true_false : true ≡ false → ⊥
 true_false e = cc
 
 -- their first words differ
-apart : (words : List (List ℕ)) (one other : List ℕ) → bytes_eq one one ≡ true → bytes_eq one other ≡ false → first_word words ≡ one → first_word words ≡ other → ⊥
+apart : (words : List (List ℕ)) (one other : List ℕ) → bytes_eq one one ≡ true → bytes_eq one other ≡ false → first_word words ≡ one → first_word words ≡ other
+    → ⊥
 apart words one other alike differ first second = true_false (sym alike ∙ ap (bytes_eq one) (sym first ∙ second) ∙ differ)
 
 pub not_both : (words : List (List ℕ)) → AskReplay words → AskCheck words → ⊥
@@ -103,10 +104,33 @@ unfolding first_word
 not_import_lab words import lab = apart words (codes "import") (codes "lab") refl refl (ap first_word import.2.says) (ap first_word lab)
 
 -- No words ask for two works.
-pub ruleset asked_apart = (not_both, not_replay_live, not_check_live, not_replay_make, not_check_make, not_live_make, not_replay_dump, not_check_dump, not_live_dump, not_make_dump, not_replay_import, not_check_import, not_live_import, not_make_import, not_dump_import, not_replay_lab, not_check_lab, not_live_lab, not_make_lab, not_dump_lab, not_import_lab)
+pub ruleset asked_apart = (
+  not_both,
+  not_replay_live,
+  not_check_live,
+  not_replay_make,
+  not_check_make,
+  not_live_make,
+  not_replay_dump,
+  not_check_dump,
+  not_live_dump,
+  not_make_dump,
+  not_replay_import,
+  not_check_import,
+  not_live_import,
+  not_make_import,
+  not_dump_import,
+  not_replay_lab,
+  not_check_lab,
+  not_live_lab,
+  not_make_lab,
+  not_dump_lab,
+  not_import_lab,
+)
 
 -- words that ask for no work
-pub none_asked : (words : List (List ℕ)) → (AskReplay words → ⊥) → (AskCheck words → ⊥) → (AskDump words → ⊥) → (AskLab words → ⊥) → ((rounds : ℕ) → AsksMake words rounds → ⊥)
+pub none_asked : (words : List (List ℕ)) → (AskReplay words → ⊥) → (AskCheck words → ⊥) → (AskDump words → ⊥) → (AskLab words → ⊥)
+    → ((rounds : ℕ) → AsksMake words rounds → ⊥)
     → ((name : Name) (mac : Mac) → AsksImport words name mac → ⊥) → ((specs : List IfSpec) → AsksLive words specs → ⊥) → AskWork words → ⊥
 none_asked words replay check dump lab make import live asks =
     let imports_or_lab : AskImport words ⊎ AskLab words → ⊥ = ⊎_elim (λ asked. import asked.0 asked.1 asked.2) lab in

@@ -32,7 +32,8 @@ stops_writing A (status.Schedule line) fault memory stops = absurd stops
 stops_writing A status.TooLong fault memory stops = absurd stops
 stops_writing A status.NoMemory fault memory stops = memory
 
-pub stopped_answer : (answer : Status) (input old new : Option (List ℕ)) (bytes : List ℕ) (script : ScriptLines) (conf : Configuration) → IsInput input bytes → length bytes ≤ limit → IsScript bytes script conf
+pub stopped_answer : (answer : Status) (input old new : Option (List ℕ)) (bytes : List ℕ) (script : ScriptLines) (conf : Configuration) → IsInput input bytes
+    → length bytes ≤ limit → IsScript bytes script conf
     → WritesFront old new [] (transcript script conf) → StopsWriting answer → IsAnswer answer input old new
 stopped_answer answer input old new bytes script conf read within is front stops =
     stops_writing (λ (s : Status). IsAnswer s input old new) answer stopped (inr stopped) stops
@@ -42,11 +43,14 @@ stopped_answer answer input old new bytes script conf read within is front stops
 
 -- ---- nothing was written
 
-pub refused_answer : (answer : Status) (input old new : Option (List ℕ)) (bytes : List ℕ) → IsInput input bytes → length bytes ≤ limit → new ≡ old → IsRefused bytes answer → IsAnswer answer input old new
+pub refused_answer : (answer : Status) (input old new : Option (List ℕ)) (bytes : List ℕ) → IsInput input bytes → length bytes ≤ limit → new ≡ old
+    → IsRefused bytes answer → IsAnswer answer input old new
 refused_answer status.Done input old new bytes read within same refused = absurd refused
 refused_answer status.Usage input old new bytes read within same refused = absurd refused
-refused_answer (status.Script fault) input old new bytes read within same refused = record { bytes = bytes; read = read; in_limit = within; why = refused; unwritten = same }
-refused_answer (status.Conf fault) input old new bytes read within same refused = record { bytes = bytes; read = read; in_limit = within; why = refused; unwritten = same }
+refused_answer (status.Script fault) input old new bytes read within same refused =
+    record { bytes = bytes; read = read; in_limit = within; why = refused; unwritten = same }
+refused_answer (status.Conf fault) input old new bytes read within same refused =
+    record { bytes = bytes; read = read; in_limit = within; why = refused; unwritten = same }
 refused_answer status.ReadFault input old new bytes read within same refused = absurd refused
 refused_answer status.WriteFault input old new bytes read within same refused = absurd refused
 refused_answer status.LinkFault input old new bytes read within same refused = absurd refused
@@ -73,20 +77,26 @@ not_refused input bytes tells read none =
 err_ok : {A B : Type 0} {a : A} {b : B} → Err b ≡ Ok a → ⊥
 err_ok e = cc
 
-pub configured : (input : Option (List ℕ)) (bytes : List ℕ) (fault : ConfFault) → TellsConfiguration input → IsInput input bytes → IsConfOf bytes (Err fault) → ⊥
+pub configured : (input : Option (List ℕ)) (bytes : List ℕ) (fault : ConfFault) → TellsConfiguration input → IsInput input bytes → IsConfOf bytes (Err fault)
+    → ⊥
 configured input bytes fault tells read bad =
-    err_ok (configuration_one bytes (Err fault) (Ok tells.conf) bad (subst (λ (b : List ℕ). IsConfOf b (Ok tells.conf)) (read_is input tells.bytes bytes tells.told read) tells.configured))
+    err_ok
+    (configuration_one bytes (Err fault) (Ok tells.conf) bad
+    (subst (λ (b : List ℕ). IsConfOf b (Ok tells.conf)) (read_is input tells.bytes bytes tells.told read) tells.configured))
 
 pub not_too_long : (input : Option (List ℕ)) (bytes : List ℕ) → input ≡ Some bytes → length bytes ≤ limit → IsTooLong input → ⊥
 not_too_long None bytes told within long = let never : ⊥ = cc in never
 not_too_long (Some input) bytes told within long = omega (arith, long, subst (λ (b : List ℕ). length b ≤ limit) (sym (some_is told)) within)
 
 -- a script over streams that didn't fail was replayed, or memory was wanted
-pub completes : (answer : Status) (input old new : Option (List ℕ)) (a b p q : ℕ) → TellsScript input → b ≡ a → q ≡ p → IsAnswer answer input old new → HasStatusCause answer a b p q → Completes answer
+pub completes : (answer : Status) (input old new : Option (List ℕ)) (a b p q : ℕ) → TellsScript input → b ≡ a → q ≡ p → IsAnswer answer input old new
+    → HasStatusCause answer a b p q → Completes answer
 completes status.Done input old new a b p q tells read wrote answer cause = tt
 completes status.Usage input old new a b p q tells read wrote answer cause = absurd answer
-completes (status.Script fault) input old new a b p q tells read wrote answer cause = not_refused input answer.bytes tells answer.read (fault_refuses answer.bytes fault answer.why)
-completes (status.Conf fault) input old new a b p q tells read wrote answer cause = not_refused input answer.bytes tells answer.read (conf_fault_refuses answer.bytes fault answer.why)
+completes (status.Script fault) input old new a b p q tells read wrote answer cause =
+    not_refused input answer.bytes tells answer.read (fault_refuses answer.bytes fault answer.why)
+completes (status.Conf fault) input old new a b p q tells read wrote answer cause =
+    not_refused input answer.bytes tells answer.read (conf_fault_refuses answer.bytes fault answer.why)
 completes status.ReadFault input old new a b p q tells read wrote answer cause = absurd (omega (arith, read, cause.0))
 completes status.WriteFault input old new a b p q tells read wrote answer cause = absurd (omega (arith, wrote, cause.1))
 completes status.LinkFault input old new a b p q tells read wrote answer cause = absurd answer

@@ -75,7 +75,8 @@ module _ (bytes : List ℕ) (script : ScriptLines) (conf : Configuration) (is : 
   in_script = managed_in script conf
 
   -- in each life, whatever those before it left
-  keeps_on : (failing : Failing) (between : Between) → InOrder between.store.files → (lives : List LifeScript) → AllKeepRightly in_script script.ifaces failing between lives
+  keeps_on : (failing : Failing) (between : Between) → InOrder between.store.files → (lives : List LifeScript)
+      → AllKeepRightly in_script script.ifaces failing between lives
   keeps_on failing between order [] = tt
   keeps_on failing between order (life ∷ lives) = (
     life_keeps (configuration_text script) conf is.configured script.ifaces (ifaces_fit bytes script conf is) (world_in failing between life) order,

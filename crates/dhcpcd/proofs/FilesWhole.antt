@@ -32,8 +32,11 @@ module _ (managed : List Managed) (specs : List IfSpec) (failing : Failing) wher
   whole_on : (between : Between) → IsSound between.store → (lives : List LifeScript) → AllStayWhole managed specs failing between lives
   whole_on between sound [] = tt
   whole_on between sound (life ∷ lives) =
-      let here = foretold_whole managed specs (world_in failing between life) sound in
-      (here, whole_on (after_life managed specs failing between life) (left_sound life.crash (foretold_life managed specs (world_in failing between life)).left.store.told here.sound) lives)
+      let here = foretold_whole managed specs (world_in failing between life) sound in (
+        here,
+        whole_on (after_life managed specs failing between life)
+            (left_sound life.crash (foretold_life managed specs (world_in failing between life)).left.store.told here.sound) lives,
+      )
 
 pub stay_whole_in : (script : ScriptLines) (conf : Configuration)
     → AllStayWhole (managed_in script conf) script.ifaces (failing_in script.fails) (at_first script.rows script.files script.polls) script.lives

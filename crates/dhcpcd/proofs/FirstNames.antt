@@ -10,7 +10,8 @@ use Rattle.world_mem.specs.declared.stores.MemFile.{MemFile}
 use Rattle.world_mem.specs.StoreRecord as stores
 use Rattle.script_model.specs.FirstFiles.{FitsFile}
 
-pub names_held : (files : List StoreFile) (held : List MemFile) → map stores.file_of held ≡ files → All FitsFile files → All (λ (file : MemFile). IsFileName (string_bytes file.name)) held
+pub names_held : (files : List StoreFile) (held : List MemFile) → map stores.file_of held ≡ files → All FitsFile files
+    → All (λ (file : MemFile). IsFileName (string_bytes file.name)) held
 names_held files held same fits =
     All-from_recursion (λ (file : MemFile). IsFileName (string_bytes file.name)) held
     (all_map (λ (file : MemFile). FitsFile (stores.file_of file)) (λ (file : MemFile). IsFileName (string_bytes file.name)) (λ file fit. fit.name) held

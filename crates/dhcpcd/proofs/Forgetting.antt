@@ -7,5 +7,6 @@ use Rattle.dhcpcd.specs.Memory.{forgotten}
 some_same : {A : Type 0} {a b : A} → Some a ≡ Some b → a ≡ b
 some_same e = cc
 
-pub forgets : (old new : HooksState) → new.running ≡ false → Abandons old.running (Some old.told) (Some new.told) → Some new.failing ≡ Some old.failing → new ≡ forgotten old
+pub forgets : (old new : HooksState) → new.running ≡ false → Abandons old.running (Some old.told) (Some new.told) → Some new.failing ≡ Some old.failing
+    → new ≡ forgotten old
 forgets old new runs told fails = λ i. record { told = some_same told i; running = runs i; failing = some_same fails i }

@@ -22,7 +22,8 @@ none_within text none (line ∷ []) is = refl
 none_within text none (line ∷ next ∷ parts) is =
     let free : Lacks 10 line = (subst (AllByRecursion (Lacks 10)) is (parts_lack text)).0 in
     let whole : text ≡ line ++ 10 ∷ join_with_byte 10 (next ∷ parts) = sym (parts_joined text) ∙ ap (join_with_byte 10) is in
-    let cut : split_at_byte 10 text ≡ Some (line, join_with_byte 10 (next ∷ parts)) = ap (split_at_byte 10) whole ∙ split_whole 10 line (join_with_byte 10 (next ∷ parts)) free in
+    let cut : split_at_byte 10 text ≡ Some (line, join_with_byte 10 (next ∷ parts)) =
+    ap (split_at_byte 10) whole ∙ split_whole 10 line (join_with_byte 10 (next ∷ parts)) free in
     absurd cc
 
 conf_none : (text : List ℕ) → split_at_byte 10 text ≡ None → conf_lines text ≡ []
@@ -53,7 +54,8 @@ unended_in text none (line ∷ []) is = sym (sym (parts_joined text) ∙ ap (joi
 unended_in text none (line ∷ next ∷ parts) is =
     let free : Lacks 10 line = (subst (AllByRecursion (Lacks 10)) is (parts_lack text)).0 in
     let whole : text ≡ line ++ 10 ∷ join_with_byte 10 (next ∷ parts) = sym (parts_joined text) ∙ ap (join_with_byte 10) is in
-    let cut : split_at_byte 10 text ≡ Some (line, join_with_byte 10 (next ∷ parts)) = ap (split_at_byte 10) whole ∙ split_whole 10 line (join_with_byte 10 (next ∷ parts)) free in
+    let cut : split_at_byte 10 text ≡ Some (line, join_with_byte 10 (next ∷ parts)) =
+    ap (split_at_byte 10) whole ∙ split_whole 10 line (join_with_byte 10 (next ∷ parts)) free in
     absurd cc
 
 unended_none : (text : List ℕ) → split_at_byte 10 text ≡ None → unended text ≡ text
@@ -80,7 +82,8 @@ pub record Prints_so_far (old new conf rest : List ℕ) : Type 0 where
 pub printed_none : (text conf : List ℕ) → Prints_so_far text text conf conf
 printed_none text conf = record { front = []; printed = prints_none text; left = refl; last = refl }
 
-pub printed_more : (old mid new conf rest line after : List ℕ) → split_at_byte 10 rest ≡ Some (line, after) → Prints_so_far old mid conf rest → Prints mid new (lines.Conf line ∷ []) → Prints_so_far old new conf after
+pub printed_more : (old mid new conf rest line after : List ℕ) → split_at_byte 10 rest ≡ Some (line, after) → Prints_so_far old mid conf rest
+    → Prints mid new (lines.Conf line ∷ []) → Prints_so_far old new conf after
 printed_more old mid new conf rest line after e p q = record {
   front = p.front ++ line ∷ [];
   printed = prints_same (prints_then p.printed q) (sym (map-append lines.Conf p.front (line ∷ [])));
@@ -88,7 +91,8 @@ printed_more old mid new conf rest line after e p q = record {
   last = p.last ∙ unended_some rest line after e;
 }
 
-pub printed_all : (old new conf rest : List ℕ) → split_at_byte 10 rest ≡ None → Prints_so_far old new conf rest → Prints old new (map lines.Conf (conf_lines conf))
+pub printed_all : (old new conf rest : List ℕ) → split_at_byte 10 rest ≡ None → Prints_so_far old new conf rest
+    → Prints old new (map lines.Conf (conf_lines conf))
 printed_all old new conf rest none p =
     prints_same p.printed (ap (map lines.Conf) (sym (p.left ∙ ap (λ (ls : List (List ℕ)). p.front ++ ls) (conf_none rest none) ∙ append-nil p.front)))
 

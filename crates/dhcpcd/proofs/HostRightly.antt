@@ -66,7 +66,8 @@ given_octets : (count : ℕ) (given : Given) → FitsGiven count given → Bring
 given_octets count given fits = came_octets given.wake.event given.bytes fits.bytes
 
 -- of a turn and those before it
-up_to : (earlier : List Given) (given : Given) (coming : List Given) → AllByRecursion BringsBytes (earlier ++ given ∷ coming) → AllByRecursion BringsBytes (earlier ++ given ∷ [])
+up_to : (earlier : List Given) (given : Given) (coming : List Given) → AllByRecursion BringsBytes (earlier ++ given ∷ coming)
+    → AllByRecursion BringsBytes (earlier ++ given ∷ [])
 up_to [] given coming h = (h.0, tt)
 up_to (g ∷ earlier) given coming h = (h.0, up_to earlier given coming h.1)
 
@@ -116,7 +117,8 @@ module _ (text : List ℕ) (conf : Configuration) (is : IsConfOf text (Ok conf))
         let after : Running = running_after managed (earlier ++ given ∷ []) begun in
         let later : List Met = told_turns managed after.life after.world coming in
         let comes : begun.world.link.told.coming ≡ world.link.told.coming = run_coming (opening_asks managed specs world.link.told.begin) world in
-        let all : all_mets ≡ told_turns managed begun.life begun.world (earlier ++ given ∷ coming) = ap (told_turns managed begun.life begun.world) (comes ∙ turn.stands) in
+        let all : all_mets ≡ told_turns managed begun.life begun.world (earlier ++ given ∷ coming) =
+        ap (told_turns managed begun.life begun.world) (comes ∙ turn.stands) in
         let parts : all_mets ≡ met ++ later =
         all ∙ foretold managed begun earlier given coming (subst (λ (ms : List Met). length earlier < length ms) all turn.handled) in
         let count : length met ≡ length earlier + 1 = mets_length begun (earlier ++ given ∷ []) ∙ length-append earlier (given ∷ []) in
@@ -126,11 +128,18 @@ module _ (text : List ℕ) (conf : Configuration) (is : IsConfOf text (Ok conf))
     life_holds = record {
       opening_holds = opening_holds managed specs world shares sorted;
       turns_hold = λ earlier given. turn_in_life managed specs world shares sorted earlier given;
-      opening_starts = opening_starts managed specs (opening_of managed specs world) (run_makes (opening_asks managed specs world.link.told.begin) world) fit others numbered named;
-      plain_starts = λ plain. plain_opening_starts managed specs (opening_of managed specs world) (run_makes (opening_asks managed specs world.link.told.begin) world) plain;
+      opening_starts =
+          opening_starts managed specs (opening_of managed specs world)
+          (run_makes (opening_asks managed specs world.link.told.begin) world) fit others numbered named;
+      plain_starts =
+          λ plain. plain_opening_starts managed specs (opening_of managed specs world)
+          (run_makes (opening_asks managed specs world.link.told.begin) world) plain;
       opening_rests = λ well. opening_rests LeaseRelation leases_based items_have_basis managed specs world fit shares others numbered named sorted well;
       turns_rest = λ earlier given coming turn well.
-          subst (λ (ms : List Met). RestOnEvidence managed specs (opening_of managed specs world) ms (lived_on managed specs world earlier given).world.host.told.rows) (handled_mets earlier given coming turn)
+          subst
+          (λ (ms : List Met). RestOnEvidence managed specs (opening_of managed specs world) ms
+          (lived_on managed specs world earlier given).world.host.told.rows)
+          (handled_mets earlier given coming turn)
           (turns_rest LeaseRelation leases_based items_have_basis managed specs world earlier given fit shares others numbered named
           (up_to earlier given coming (subst (AllByRecursion BringsBytes) turn.stands octets)) sorted well);
     }
@@ -145,16 +154,21 @@ module _ (bytes : List ℕ) (script : ScriptLines) (conf : Configuration) (is : 
   ifaces = ifaces_fit bytes script conf is
 
   -- in each life, whatever those before it left
-  holds_on : (failing : Failing) (between : Between) → InRowOrder between.host.rows → (lives : List LifeScript) → AllByRecursion (FitsLife (length script.ifaces)) lives
+  holds_on : (failing : Failing) (between : Between) → InRowOrder between.host.rows → (lives : List LifeScript)
+      → AllByRecursion (FitsLife (length script.ifaces)) lives
       → AllHoldRightly in_script script.ifaces failing between lives
   holds_on failing between sorted [] fits = tt
   holds_on failing between sorted (life ∷ lives) fits = (
-    life_holds (configuration_text script) conf is.configured script.ifaces ifaces (world_in failing between life) sorted (life_octets (length script.ifaces) life fits.0),
+    life_holds (configuration_text script) conf is.configured script.ifaces ifaces (world_in failing between life) sorted
+        (life_octets (length script.ifaces) life fits.0),
     holds_on failing (after_life in_script script.ifaces failing between life)
-        (left_in_order in_script script.ifaces (world_in failing between life) (shares (configuration_text script) conf is.configured script.ifaces ifaces) sorted) lives fits.1,
+        (left_in_order in_script script.ifaces (world_in failing between life)
+        (shares (configuration_text script) conf is.configured script.ifaces ifaces) sorted)
+        lives fits.1,
   )
 
   pub holds_rightly : AllHoldRightly in_script script.ifaces (failing_in script.fails) (at_first script.rows script.files script.polls) script.lives
   holds_rightly =
       let fits : FitsScript script = spelled_fits bytes script is.spelled in
-      holds_on (failing_in script.fails) (at_first script.rows script.files script.polls) (in_order_sorted script.rows) script.lives (recursion_from_All (FitsLife (length script.ifaces)) script.lives fits.lives)
+      holds_on (failing_in script.fails) (at_first script.rows script.files script.polls) (in_order_sorted script.rows) script.lives
+      (recursion_from_All (FitsLife (length script.ifaces)) script.lives fits.lives)

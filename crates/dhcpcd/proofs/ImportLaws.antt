@@ -59,5 +59,6 @@ import_read words (Some on) e = import_sound words on (sym e)
 import_read words None e = λ name mac asks. none_some (e ∙ import_whole words name mac asks)
 
 -- words name one interface
-pub import_is_one : (words : List (List ℕ)) (on : Import) (name : Name) (mac : Mac) → AsksImport words on.name on.mac → AsksImport words name mac → on ≡ record { name = name; mac = mac }
+pub import_is_one : (words : List (List ℕ)) (on : Import) (name : Name) (mac : Mac) → AsksImport words on.name on.mac → AsksImport words name mac
+    → on ≡ record { name = name; mac = mac }
 import_is_one words on name mac first second = some_same (sym (import_whole words on.name on.mac first) ∙ import_whole words name mac second)

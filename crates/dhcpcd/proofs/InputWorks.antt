@@ -78,7 +78,8 @@ lab_is_decided bytes text status.TooLong gives refuses = absurd refuses
 lab_is_decided bytes text status.NoMemory gives refuses = absurd refuses
 
 -- a schedule whose configuration isn't read is refused
-pub refused_schedule : (bytes : List ℕ) (schedule : Schedule) (answer : Status) → IsSpelled SpellsSchedule bytes schedule → IsConfRefused schedule.conf answer → MayRefuse (lab_work.Refuses bytes) answer
+pub refused_schedule : (bytes : List ℕ) (schedule : Schedule) (answer : Status) → IsSpelled SpellsSchedule bytes schedule → IsConfRefused schedule.conf answer
+    → MayRefuse (lab_work.Refuses bytes) answer
 refused_schedule bytes schedule (status.Conf fault) spelled refused = (tt, record { schedule = schedule; spelled = spelled; told = refused })
 refused_schedule bytes schedule status.NoMemory spelled refused = tt
 refused_schedule bytes schedule status.Done spelled refused = absurd refused
@@ -94,5 +95,6 @@ refused_schedule bytes schedule (status.Schedule line) spelled refused = absurd 
 refused_schedule bytes schedule status.TooLong spelled refused = absurd refused
 
 -- the interfaces that a schedule has managed fit
-pub lab_managed : (bytes : List ℕ) (schedule : Schedule) (conf : Configuration) → IsSpelled SpellsSchedule bytes schedule → IsConfOf schedule.conf (Ok conf) → AreManaged (managed_of conf schedule.ifaces)
+pub lab_managed : (bytes : List ℕ) (schedule : Schedule) (conf : Configuration) → IsSpelled SpellsSchedule bytes schedule → IsConfOf schedule.conf (Ok conf)
+    → AreManaged (managed_of conf schedule.ifaces)
 lab_managed bytes schedule conf spelled is = live_managed schedule.conf conf schedule.ifaces is spelled.spells.fits.ifaces

@@ -28,11 +28,14 @@ module _ (managed : List Managed) (specs : List IfSpec) (failing : Failing) wher
   after_lives between (life ∷ lives) = after_lives (after_life managed specs failing between life) lives
 
   lines_joined : (between : Between) (lives more : List LifeScript)
-      → lives_lines managed specs failing between (lives ++ more) ≡ lives_lines managed specs failing between lives ++ lives_lines managed specs failing (after_lives between lives) more
+      → lives_lines managed specs failing between (lives ++ more)
+      ≡ lives_lines managed specs failing between lives ++ lives_lines managed specs failing (after_lives between lives) more
   lines_joined between [] more = refl
   lines_joined between (life ∷ lives) more =
       ap (λ (ls : List Line). life_in managed specs failing between life ++ ls) (lines_joined (after_life managed specs failing between life) lives more)
-      ∙ sym (append_assoc (life_in managed specs failing between life) (lives_lines managed specs failing (after_life managed specs failing between life) lives) (lives_lines managed specs failing (after_lives between (life ∷ lives)) more))
+      ∙ sym
+      (append_assoc (life_in managed specs failing between life) (lives_lines managed specs failing (after_life managed specs failing between life) lives)
+      (lives_lines managed specs failing (after_lives between (life ∷ lives)) more))
 
   after_joined : (between : Between) (lives more : List LifeScript) → after_lives between (lives ++ more) ≡ after_lives (after_lives between lives) more
   after_joined between [] more = refl
@@ -43,7 +46,8 @@ module _ (managed : List Managed) (specs : List IfSpec) (failing : Failing) wher
   lives_counted between (life ∷ lives) = let more = lives_counted (after_life managed specs failing between life) lives in omega (arith, more)
 
 -- the lives so far were lived, and this goes on to the next one
-pub record LivedSoFar (managed : List Managed) (specs : List IfSpec) (failing : Failing) (start : Between) (lives : List LifeLines) (between : code.Between) (old new : Option (List ℕ)) : Type 0 where
+pub record LivedSoFar (managed : List Managed) (specs : List IfSpec) (failing : Failing) (start : Between) (lives : List LifeLines) (between : code.Between)
+    (old new : Option (List ℕ)) : Type 0 where
   pub left : between_in between ≡ after_lives managed specs failing start (map life_of lives)
   pub fails : failing_with failing.sends between ≡ failing
   pub written : WritesLines old new (lives_lines managed specs failing start (map life_of lives))
@@ -54,16 +58,19 @@ lived_none managed specs failing start first out begins fails = record { left = 
 
 -- what the first life finds
 module _ (rows : List HostRow) (files : List StoreFile) (polls : List (Option Poll)) (fails : List FailLine) (first : code.Between) where
-  pub finds_first : (first.lives ≡ 0) × (first.sent ≡ 0) → first.store ≡ store_of files fails → first.host ≡ host_of rows fails → first.hooks ≡ hooks_of polls fails
+  pub finds_first : (first.lives ≡ 0) × (first.sent ≡ 0) → first.store ≡ store_of files fails → first.host ≡ host_of rows fails
+      → first.hooks ≡ hooks_of polls fails
       → between_in first ≡ at_first rows files polls
-  finds_first counts store host hooks = λ i. record { lives = counts.0 i; sent = counts.1 i; host = (host i).told; store = (store i).told; hooks = (hooks i).told }
+  finds_first counts store host hooks =
+      λ i. record { lives = counts.0 i; sent = counts.1 i; host = (host i).told; store = (store i).told; hooks = (hooks i).told }
 
   pub fails_first : first.store ≡ store_of files fails → first.host ≡ host_of rows fails → first.hooks ≡ hooks_of polls fails
       → failing_with (failing_calls Link fails) first ≡ failing_in fails
   fails_first store host hooks =
       λ i. record { sends = failing_calls Link fails; host = (host i).failing; store = (store i).failing.numbers; hooks = (hooks i).failing }
 
-module _ (managed : List Managed) (specs : List IfSpec) (failing : Failing) (start : Between) (lives : List LifeLines) (between : code.Between) (old mid new : Option (List ℕ)) (so_far : LivedSoFar managed specs failing start lives between old mid) (life : LifeLines) where
+module _ (managed : List Managed) (specs : List IfSpec) (failing : Failing) (start : Between) (lives : List LifeLines) (between : code.Between)
+    (old mid new : Option (List ℕ)) (so_far : LivedSoFar managed specs failing start lives between old mid) (life : LifeLines) where
   module _ (given : List IfSpec) (specs_same : given ≡ specs) (sends : List ℕ) (sends_same : sends ≡ failing.sends) where
     abbrev before : List Line
     before = lives_lines managed specs failing start (map life_of lives)
@@ -88,25 +95,32 @@ module _ (managed : List Managed) (specs : List IfSpec) (failing : Failing) (sta
     same_left = λ i. after_life managed (specs_same i) (all_fail i) (so_far.left i) (life_of life)
 
     pub lived_more : (next : code.Between) → WritesLines mid new called
-        → between_in next ≡ after_life managed given (failing_with sends between) (between_in between) (life_of life) → failing_with sends next ≡ failing_with sends between
+        → between_in next ≡ after_life managed given (failing_with sends between) (between_in between) (life_of life)
+        → failing_with sends next ≡ failing_with sends between
         → LivedSoFar managed specs failing start (lives ++ life ∷ []) next old new
     lived_more next written left fails =
         let one : map life_of (lives ++ life ∷ []) ≡ map life_of lives ++ life_of life ∷ [] = map-append life_of lives (life ∷ []) in
         record {
-          left = left ∙ same_left ∙ sym (ap (after_lives managed specs failing start) one ∙ after_joined managed specs failing start (map life_of lives) (life_of life ∷ []));
+          left =
+              left ∙ same_left
+              ∙ sym (ap (after_lives managed specs failing start) one ∙ after_joined managed specs failing start (map life_of lives) (life_of life ∷ []));
           fails = ap (λ (s : List ℕ). failing_with s next) (sym sends_same) ∙ fails ∙ all_fail;
           written = subst (WritesLines old new)
-              (sym (ap (lives_lines managed specs failing start) one ∙ lines_joined managed specs failing start (map life_of lives) (life_of life ∷ []) ∙ ap (λ (ls : List Line). before ++ ls) (append-nil lived)))
+              (sym
+              (ap (lives_lines managed specs failing start) one ∙ lines_joined managed specs failing start (map life_of lives) (life_of life ∷ [])
+              ∙ ap (λ (ls : List Line). before ++ ls) (append-nil lived)))
               (lines_then old mid new before lived so_far.written (subst (WritesLines mid new) same_life written));
         }
 
     -- a front of the lines of a life, after those before it
-    pub front_in_life : (all rest : List LifeLines) → all ≡ lives ++ life ∷ rest → WritesFront mid new [] called → WritesFront old new [] (lives_lines managed specs failing start (map life_of all))
+    pub front_in_life : (all rest : List LifeLines) → all ≡ lives ++ life ∷ rest → WritesFront mid new [] called
+        → WritesFront old new [] (lives_lines managed specs failing start (map life_of all))
     front_in_life all rest stands front =
         let after : List Line = lives_lines managed specs failing (after_life managed specs failing here (life_of life)) (map life_of rest) in
         let parts : map life_of all ≡ map life_of lives ++ life_of life ∷ map life_of rest = ap (map life_of) stands ∙ map-append life_of lives (life ∷ rest) in
         let whole : lives_lines managed specs failing start (map life_of all) ≡ (before ++ lived) ++ after =
-        ap (lives_lines managed specs failing start) parts ∙ lines_joined managed specs failing start (map life_of lives) (life_of life ∷ map life_of rest) ∙ sym (append_assoc before lived after) in
+        ap (lives_lines managed specs failing start) parts ∙ lines_joined managed specs failing start (map life_of lives) (life_of life ∷ map life_of rest)
+        ∙ sym (append_assoc before lived after) in
         subst (WritesFront old new []) (sym whole)
         (front_wider old new [] (before ++ lived) after (front_then old mid new before lived so_far.written (subst (WritesFront mid new []) same_life front)))
 
@@ -122,10 +136,12 @@ none_left all lives [] stands none = sym (stands ∙ append-nil lives)
 none_left all lives (next ∷ coming) stands none = absurd (omega (arith, none))
 
 pub not_last : {A : Type 0} (all lives : List A) (life : A) (rest : List A) → all ≡ lives ++ life ∷ rest → length lives < length all
-not_last {A = A} all lives life rest stands = let count = length-append lives (life ∷ rest) in let whole = ap (λ (ls : List A). length ls) stands in omega (arith, count, whole)
+not_last {A = A} all lives life rest stands =
+    let count = length-append lives (life ∷ rest) in let whole = ap (λ (ls : List A). length ls) stands in omega (arith, count, whole)
 
 -- the number of a life is how many were lived
-pub few_lives : (managed : List Managed) (specs : List IfSpec) (failing : Failing) (start : Between) (lives : List LifeLines) (between : code.Between) (old new : Option (List ℕ))
+pub few_lives : (managed : List Managed) (specs : List IfSpec) (failing : Failing) (start : Between) (lives : List LifeLines) (between : code.Between)
+    (old new : Option (List ℕ))
     → start.lives ≡ 0 → LivedSoFar managed specs failing start lives between old new → between.lives ≡ length lives
 few_lives managed specs failing start lives between old new none so_far =
     let count = lives_counted managed specs failing start (map life_of lives) in

@@ -73,19 +73,22 @@ module _ (managed : List Managed) where
   turns_host_failing [] running = refl
   turns_host_failing (given ∷ turns) running =
       turns_host_failing turns (running_turned managed running given)
-      ∙ run_host_failing (turn_asks managed running.life (told_wake given) (told_bytes given)) (woken (until running.life) (told_wake given) (told_bytes given) running.world)
+      ∙ run_host_failing (turn_asks managed running.life (told_wake given) (told_bytes given))
+      (woken (until running.life) (told_wake given) (told_bytes given) running.world)
 
   turns_store_failing : (turns : List Given) (running : Running) → (running_after managed turns running).world.store.failing ≡ running.world.store.failing
   turns_store_failing [] running = refl
   turns_store_failing (given ∷ turns) running =
       turns_store_failing turns (running_turned managed running given)
-      ∙ run_store_failing (turn_asks managed running.life (told_wake given) (told_bytes given)) (woken (until running.life) (told_wake given) (told_bytes given) running.world)
+      ∙ run_store_failing (turn_asks managed running.life (told_wake given) (told_bytes given))
+      (woken (until running.life) (told_wake given) (told_bytes given) running.world)
 
   turns_hooks_failing : (turns : List Given) (running : Running) → (running_after managed turns running).world.hooks.failing ≡ running.world.hooks.failing
   turns_hooks_failing [] running = refl
   turns_hooks_failing (given ∷ turns) running =
       turns_hooks_failing turns (running_turned managed running given)
-      ∙ run_hooks_failing (turn_asks managed running.life (told_wake given) (told_bytes given)) (woken (until running.life) (told_wake given) (told_bytes given) running.world)
+      ∙ run_hooks_failing (turn_asks managed running.life (told_wake given) (told_bytes given))
+      (woken (until running.life) (told_wake given) (told_bytes given) running.world)
 
   module _ (specs : List IfSpec) (world : World) where
     abbrev opened : Running
@@ -100,15 +103,18 @@ module _ (managed : List Managed) where
     -- which calls fail stays
     pub left_host_failing : (foretold_life managed specs world).left.host.failing ≡ world.host.failing
     left_host_failing =
-        ap (λ (w : World). w.host.failing) by.left ∙ turns_host_failing by.turns opened ∙ run_host_failing (opening_asks managed specs world.link.told.begin) world
+        ap (λ (w : World). w.host.failing) by.left ∙ turns_host_failing by.turns opened
+        ∙ run_host_failing (opening_asks managed specs world.link.told.begin) world
 
     pub left_store_failing : (foretold_life managed specs world).left.store.failing ≡ world.store.failing
     left_store_failing =
-        ap (λ (w : World). w.store.failing) by.left ∙ turns_store_failing by.turns opened ∙ run_store_failing (opening_asks managed specs world.link.told.begin) world
+        ap (λ (w : World). w.store.failing) by.left ∙ turns_store_failing by.turns opened
+        ∙ run_store_failing (opening_asks managed specs world.link.told.begin) world
 
     pub left_hooks_failing : (foretold_life managed specs world).left.hooks.failing ≡ world.hooks.failing
     left_hooks_failing =
-        ap (λ (w : World). w.hooks.failing) by.left ∙ turns_hooks_failing by.turns opened ∙ run_hooks_failing (opening_asks managed specs world.link.told.begin) world
+        ap (λ (w : World). w.hooks.failing) by.left ∙ turns_hooks_failing by.turns opened
+        ∙ run_hooks_failing (opening_asks managed specs world.link.told.begin) world
 
     -- the host's rows stand in order where they did
     pub left_in_order : SharesAreManaged managed → InRowOrder world.host.told.rows → InRowOrder (foretold_life managed specs world).left.host.told.rows
@@ -118,8 +124,10 @@ module _ (managed : List Managed) where
         subst (λ (w : World). InRowOrder w.host.told.rows) (sym by.left) table.in_order
 
 -- the devices of a life are those that were left
-pub made_of : (sends : List ℕ) (between : code.Between) (life : LifeScript) (held : Held) → held.link ≡ link_of life between.sent sends → held.store.told ≡ between.store.told
-    → held.store.failing ≡ store_fails between.store.failing.numbers (length between.store.told.calls) life.crash → held.host ≡ between.host → held.hooks ≡ between.hooks
+pub made_of : (sends : List ℕ) (between : code.Between) (life : LifeScript) (held : Held) → held.link ≡ link_of life between.sent sends
+    → held.store.told ≡ between.store.told
+    → held.store.failing ≡ store_fails between.store.failing.numbers (length between.store.told.calls) life.crash → held.host ≡ between.host
+    → held.hooks ≡ between.hooks
     → AreMade (failing_with sends between) (between_in between) life held
 made_of sends between life held link store fails host hooks = record {
   of_link = link;
@@ -134,7 +142,9 @@ made_of sends between life held link store fails host hooks = record {
 some_is : {A : Type 0} {a b : A} → Some a ≡ Some b → a ≡ b
 some_is e = cc
 
-module _ (managed : List Managed) (specs : List IfSpec) (failing : Failing) (between : Between) (life : LifeScript) (first held : Held) (made : AreMade failing between life first) (left : IfSome (world_after first) (λ (world : World). option_map left_in (world_after held) ≡ Some (foretold_life managed specs world).left)) where
+module _ (managed : List Managed) (specs : List IfSpec) (failing : Failing) (between : Between) (life : LifeScript) (first held : Held)
+    (made : AreMade failing between life first)
+    (left : IfSome (world_after first) (λ (world : World). option_map left_in (world_after held) ≡ Some (foretold_life managed specs world).left)) where
   abbrev there : ForetoldLife
   there = foretold_life managed specs (world_in failing between life)
 
@@ -147,11 +157,21 @@ module _ (managed : List Managed) (specs : List IfSpec) (failing : Failing) (bet
   }
 
   left_is : here ≡ there.left
-  left_is = some_is (subst (λ (w : Option World). IfSome w (λ world. option_map left_in (world_after held) ≡ Some (foretold_life managed specs world).left)) (made_first failing between life first made) left)
+  left_is =
+      some_is
+      (subst (λ (w : Option World). IfSome w (λ world. option_map left_in (world_after held) ≡ Some (foretold_life managed specs world).left))
+      (made_first failing between life first made) left)
 
   -- a child that runs is forgotten
-  pub next_is : (lives : ℕ) → lives ≡ between.lives + 1 → (opening : OpeningMet) (mets : List Met) → IsLifeOf opening mets there → held.hooks.running ≡ is_some (life_after opening.life mets).hooks.child
-      → record { lives = lives; sent = held.link.told.sends; host = held.host.told; store = store_left life.crash held.store.told; hooks = abandoned held.hooks.running held.hooks.told }
+  pub next_is : (lives : ℕ) → lives ≡ between.lives + 1 → (opening : OpeningMet) (mets : List Met) → IsLifeOf opening mets there
+      → held.hooks.running ≡ is_some (life_after opening.life mets).hooks.child
+      → record {
+        lives = lives;
+        sent = held.link.told.sends;
+        host = held.host.told;
+        store = store_left life.crash held.store.told;
+        hooks = abandoned held.hooks.running held.hooks.told;
+      }
       ≡ after_life managed specs failing between life
   next_is lives count opening mets are runs =
       let child : held.hooks.running ≡ is_some (life_after there.opening.life there.mets).hooks.child =
@@ -165,7 +185,8 @@ module _ (managed : List Managed) (specs : List IfSpec) (failing : Failing) (bet
       }
 
   pub still_fails_store : held.store.failing.numbers ≡ failing.store
-  still_fails_store = ap (λ (l : Left). l.store.failing.numbers) left_is ∙ ap (λ (f : StoreFails). f.numbers) (left_store_failing managed specs (world_in failing between life))
+  still_fails_store =
+      ap (λ (l : Left). l.store.failing.numbers) left_is ∙ ap (λ (f : StoreFails). f.numbers) (left_store_failing managed specs (world_in failing between life))
 
   pub still_fails_host : held.host.failing ≡ failing.host
   still_fails_host = ap (λ (l : Left). l.host.failing) left_is ∙ left_host_failing managed specs (world_in failing between life)
@@ -174,6 +195,7 @@ module _ (managed : List Managed) (specs : List IfSpec) (failing : Failing) (bet
   still_fails_hooks = ap (λ (l : Left). l.hooks.failing) left_is ∙ left_hooks_failing managed specs (world_in failing between life)
 
 -- the calls that fail go on where those of the host, of the store and of hooks do
-pub fails_on : (sends : List ℕ) (next between : code.Between) → next.host.failing ≡ between.host.failing → next.store.failing.numbers ≡ between.store.failing.numbers
+pub fails_on : (sends : List ℕ) (next between : code.Between) → next.host.failing ≡ between.host.failing
+    → next.store.failing.numbers ≡ between.store.failing.numbers
     → next.hooks.failing ≡ between.hooks.failing → failing_with sends next ≡ failing_with sends between
 fails_on sends next between host store hooks = λ i. record { sends = sends; host = host i; store = store i; hooks = hooks i }

@@ -71,7 +71,8 @@ calls_apart (call ∷ calls) =
     kept_or_gone false = refl
 
 -- with the moment of the next wait behind them
-asked_apart : (calls : List Call) (until : Option ℕ) → lines_of_others (flat_map lines_of calls ++ lines.Until until ∷ []) ≡ flat_map lines_of (calls_of_others calls)
+asked_apart : (calls : List Call) (until : Option ℕ)
+    → lines_of_others (flat_map lines_of calls ++ lines.Until until ∷ []) ≡ flat_map lines_of (calls_of_others calls)
 asked_apart calls until =
     filter-append is_of_others (flat_map lines_of calls) (lines.Until until ∷ []) ∙ append-nil (lines_of_others (flat_map lines_of calls)) ∙ calls_apart calls
 
@@ -133,11 +134,14 @@ module _ (managed : List Managed) (specs : List IfSpec) where
     same : turns.SameButHooks one other
     same = hooks_apart managed specs (world_in failing between life) (record { told = hooks; failing = starts })
 
-    lines_alike : lines_of_others (lines_in managed specs failing between life) ≡ lines_of_others (lines_in managed specs (failing_but failing starts) (between_but between hooks) life)
+    lines_alike : lines_of_others (lines_in managed specs failing between life)
+        ≡ lines_of_others (lines_in managed specs (failing_but failing starts) (between_but between hooks) life)
     unfolding lines_in
     lines_alike =
         life_apart one.opening one.mets
-        ∙ (λ i. (lines.Start life.begin ∷ flat_map lines_of (same.opening i)) ++ (flat_map seen_lines (same.turns i) ++ closed (seen_last (same.opened i) (same.turns i))))
+        ∙
+        (λ i. (lines.Start life.begin ∷ flat_map lines_of (same.opening i))
+        ++ (flat_map seen_lines (same.turns i) ++ closed (seen_last (same.opened i) (same.turns i))))
         ∙ sym (life_apart other.opening other.mets)
 
     abbrev left : Between
@@ -156,7 +160,8 @@ module _ (managed : List Managed) (specs : List IfSpec) where
     })
 
   lives_alike : (failing : Failing) (starts : List ℕ) (between : Between) (hooks : HooksTold) (lives : List LifeScript)
-      → lines_of_others (lives_lines managed specs failing between lives) ≡ lines_of_others (lives_lines managed specs (failing_but failing starts) (between_but between hooks) lives)
+      → lines_of_others (lives_lines managed specs failing between lives)
+      ≡ lines_of_others (lives_lines managed specs (failing_but failing starts) (between_but between hooks) lives)
   lives_alike failing starts between hooks [] = refl
   lives_alike failing starts between hooks (life ∷ lives) =
       let others : Failing = failing_but failing starts in
@@ -183,7 +188,8 @@ module _ (conf : Configuration) (one other : ScriptLines) (same : SameButHooks o
   failing = failing_in one.fails
 
   other_lives : lives_of_script (managed_in other conf) other
-      ≡ lives_lines managed one.ifaces (failing_but failing (failing_calls Hooks other.fails)) (between_but begun (at_first other.rows other.files other.polls).hooks) one.lives
+      ≡ lives_lines managed one.ifaces (failing_but failing (failing_calls Hooks other.fails))
+      (between_but begun (at_first other.rows other.files other.polls).hooks) one.lives
   other_lives = sym (λ i. lives_lines (managed_in (record one { ifaces = same.ifaces i }) conf) (same.ifaces i)
       (record { sends = same.sends i; host = same.host i; store = same.store i; hooks = failing_calls Hooks other.fails })
       (at_first (same.rows i) (same.files i) other.polls) (same.lives i))

@@ -29,7 +29,8 @@ use Rattle.dhcpcd.proofs.SafelyTold.{life_tells}
 use Rattle.dhcpcd.proofs.Refusals.{in_force}
 
 -- the interfaces that are managed fit
-pub live_managed : (text : List ℕ) (conf : Configuration) (specs : List IfSpec) → IsConfOf text (Ok conf) → FitInterfaces specs → AreManaged (managed_of conf specs)
+pub live_managed : (text : List ℕ) (conf : Configuration) (specs : List IfSpec) → IsConfOf text (Ok conf) → FitInterfaces specs
+    → AreManaged (managed_of conf specs)
 live_managed text conf specs is fits = let all = in_force text conf is specs fits in all.fit
 
 -- ---- a life
@@ -38,7 +39,8 @@ live_managed text conf specs is fits = let all = in_force text conf is specs fit
 pub no_head : (ask : Asked) (out : Option (List ℕ)) (seen : Seen) → IsHeadCut ask (around out out seen seen)
 no_head ask out seen = record { written = front_none out (head_of ask); unasked = refl }
 
-pub head_cut : (answer : Status) (ask : Asked) (out out_to : Option (List ℕ)) (seen : Seen) → WritesFront out out_to [] (head_of ask) → StopsWriting answer → IsLifeAnswer answer ask (around out out_to seen seen)
+pub head_cut : (answer : Status) (ask : Asked) (out out_to : Option (List ℕ)) (seen : Seen) → WritesFront out out_to [] (head_of ask) → StopsWriting answer
+    → IsLifeAnswer answer ask (around out out_to seen seen)
 head_cut answer ask out out_to seen front stops = answers answer stops
   where
     cut : IsHeadCut ask (around out out_to seen seen)
@@ -65,7 +67,8 @@ pub served_whole : (ask : Asked) (out middle out_to : Option (List ℕ)) (seen s
 served_whole ask out middle out_to seen seen_to head served files = record { middle = middle; head = head; served = served; files = files }
 
 pub cut_off : (end : ServeEnd) (ask : Asked) (out middle out_to : Option (List ℕ)) (seen seen_to : Seen) → WritesLines out middle (head_of ask)
-    → Leaves end ask.turns (managed_of ask.conf ask.specs) ask.specs seen seen_to middle out_to → LeavesFiled (managed_of ask.conf ask.specs) ask.specs seen seen_to
+    → Leaves end ask.turns (managed_of ask.conf ask.specs) ask.specs seen seen_to middle out_to
+    → LeavesFiled (managed_of ask.conf ask.specs) ask.specs seen seen_to
     → IsCutOff end ask (around out out_to seen seen_to)
 cut_off end ask out middle out_to seen seen_to head left files = record { middle = middle; head = head; left = left; files = files }
 
@@ -155,12 +158,14 @@ no_link_fault answer l m cause same is =
 
 -- A good configuration over streams that didn't fail, and a link that has no fault, is lived for as many turns as are allowed, or
 -- memory was wanted.
-pub live_completes : (answer : Status) (specs : List IfSpec) (turns : ℕ) (input : Option (List ℕ)) (told : Around) (a b p q : ℕ) → TellsConfiguration input → b ≡ a → q ≡ p
+pub live_completes : (answer : Status) (specs : List IfSpec) (turns : ℕ) (input : Option (List ℕ)) (told : Around) (a b p q : ℕ) → TellsConfiguration input
+    → b ≡ a → q ≡ p
     → (answer ≡ status.LinkFault → ⊥) → IsLiveAnswer answer specs turns input told → HasStatusCause answer a b p q → CompletesLife answer
 live_completes status.Done specs turns input told a b p q tells read wrote linked answer cause = tt
 live_completes status.Usage specs turns input told a b p q tells read wrote linked answer cause = absurd answer
 live_completes (status.Script fault) specs turns input told a b p q tells read wrote linked answer cause = absurd answer
-live_completes (status.Conf fault) specs turns input told a b p q tells read wrote linked answer cause = configured input answer.0.bytes fault tells answer.0.read answer.0.why
+live_completes (status.Conf fault) specs turns input told a b p q tells read wrote linked answer cause =
+    configured input answer.0.bytes fault tells answer.0.read answer.0.why
 live_completes status.ReadFault specs turns input told a b p q tells read wrote linked answer cause = absurd (omega (arith, read, cause.0))
 live_completes status.WriteFault specs turns input told a b p q tells read wrote linked answer cause = absurd (omega (arith, wrote, cause.1))
 live_completes status.LinkFault specs turns input told a b p q tells read wrote linked answer cause = absurd (linked refl)
@@ -168,5 +173,6 @@ live_completes status.TurnsOver specs turns input told a b p q tells read wrote 
 live_completes (status.Lease line) specs turns input told a b p q tells read wrote linked answer cause = absurd answer
 live_completes (status.Capture what) specs turns input told a b p q tells read wrote linked answer cause = absurd answer
 live_completes (status.Schedule line) specs turns input told a b p q tells read wrote linked answer cause = absurd answer
-live_completes status.TooLong specs turns input told a b p q tells read wrote linked answer cause = absurd (not_too_long input tells.bytes tells.told tells.in_limit answer.0)
+live_completes status.TooLong specs turns input told a b p q tells read wrote linked answer cause =
+    absurd (not_too_long input tells.bytes tells.told tells.in_limit answer.0)
 live_completes status.NoMemory specs turns input told a b p q tells read wrote linked answer cause = tt

@@ -50,12 +50,15 @@ only_memory rounds (status.Schedule line) refused = absurd refused
 only_memory rounds status.TooLong refused = absurd refused
 only_memory rounds status.NoMemory refused = refl
 
-pub made_settled : (script : ScriptLines) (rounds : ℕ) (result : Result Settled Status) → script ≡ made_lines rounds → IfOk result (IsSettledAs script) → IfOk result (IsSettledAs (made_lines rounds))
+pub made_settled : (script : ScriptLines) (rounds : ℕ) (result : Result Settled Status) → script ≡ made_lines rounds → IfOk result (IsSettledAs script)
+    → IfOk result (IsSettledAs (made_lines rounds))
 made_settled script rounds result same is = subst (λ (lines : ScriptLines). IfOk result (IsSettledAs lines)) same is
 
-pub never_refused : (script : ScriptLines) (rounds : ℕ) (result : Result Settled Status) → script ≡ made_lines rounds → IfErr result (IsConfRefused (configuration_text script)) → IfErr result (λ answer. answer ≡ status.NoMemory)
+pub never_refused : (script : ScriptLines) (rounds : ℕ) (result : Result Settled Status) → script ≡ made_lines rounds
+    → IfErr result (IsConfRefused (configuration_text script)) → IfErr result (λ answer. answer ≡ status.NoMemory)
 never_refused script rounds (Ok s) same refused = tt
-never_refused script rounds (Err answer) same refused = only_memory rounds answer (subst (λ (lines : ScriptLines). IsConfRefused (configuration_text lines) answer) same refused)
+never_refused script rounds (Err answer) same refused =
+    only_memory rounds answer (subst (λ (lines : ScriptLines). IsConfRefused (configuration_text lines) answer) same refused)
 
 -- ---- its transcript
 
@@ -65,7 +68,8 @@ made_fits rounds s few is = subst FitsScript (sym is.script_is) (lines_fit round
 pub made_manages : (rounds : ℕ) (s : Settled) → IsSettledAs (made_lines rounds) s → s.managed.items ≡ managed_in (script_of s.script) (configuration s.conf)
 made_manages rounds s is = subst (λ (lines : ScriptLines). s.managed.items ≡ managed_in lines (configuration s.conf)) (sym is.script_is) is.managed
 
-made_in_force : (rounds : ℕ) (conf : Configuration) → rounds ≤ 100 → IsConfOf (configuration_text (made_lines rounds)) (Ok conf) → AreManaged (managed_in (made_lines rounds) conf)
+made_in_force : (rounds : ℕ) (conf : Configuration) → rounds ≤ 100 → IsConfOf (configuration_text (made_lines rounds)) (Ok conf)
+    → AreManaged (managed_in (made_lines rounds) conf)
 made_in_force rounds conf few is =
     let fits = lines_fit rounds few in
     let all = in_force (configuration_text (made_lines rounds)) conf is (made_lines rounds).ifaces fits.ifaces in
@@ -77,7 +81,8 @@ made_managed rounds s few is = subst AreManaged (sym is.managed) (made_in_force 
 some_is : {A : Type 0} {a b : A} → Some a ≡ Some b → a ≡ b
 some_is e = cc
 
-pub made_written : (rounds : ℕ) (s : Settled) (text : List ℕ) → IsSettledAs (made_lines rounds) s → WritesLines (Some []) (Some text) (transcript (script_of s.script) (configuration s.conf)) → IsMadeTranscript rounds text
+pub made_written : (rounds : ℕ) (s : Settled) (text : List ℕ) → IsSettledAs (made_lines rounds) s
+    → WritesLines (Some []) (Some text) (transcript (script_of s.script) (configuration s.conf)) → IsMadeTranscript rounds text
 made_written rounds s text is written = record {
   conf = configuration s.conf;
   configured = is.configured;
@@ -105,7 +110,8 @@ never_stopped status.NoMemory old new cause stops same = refl
 pub unwritten_answer : (answer : Status) (rounds : ℕ) (out : Option (List ℕ)) → answer ≡ status.NoMemory → IsMadeAnswer answer rounds out out
 unwritten_answer answer rounds out is = subst (λ (s : Status). IsMadeAnswer s rounds out out) (sym is) (inl refl)
 
-pub stopped_make : (answer : Status) (rounds : ℕ) (old new : Option (List ℕ)) (text : List ℕ) → IsMadeTranscript rounds text → WritesSome old new (summary rounds text) → StopsWriting answer → IsMadeAnswer answer rounds old new
+pub stopped_make : (answer : Status) (rounds : ℕ) (old new : Option (List ℕ)) (text : List ℕ) → IsMadeTranscript rounds text
+    → WritesSome old new (summary rounds text) → StopsWriting answer → IsMadeAnswer answer rounds old new
 stopped_make answer rounds old new text made written stops =
     stops_writing (λ (s : Status). IsMadeAnswer s rounds old new) answer stopped (inr stopped) stops
   where
@@ -114,7 +120,8 @@ stopped_make answer rounds old new text made written stops =
 
 -- ---- beside the input and the link, which aren't asked
 
-pub make_completes : (answer : Status) (rounds a b : ℕ) (old new : Option (List ℕ)) → IsMadeAnswer answer rounds old new → HasStatusCause answer 0 0 a b → b ≡ a → Completes answer
+pub make_completes : (answer : Status) (rounds a b : ℕ) (old new : Option (List ℕ)) → IsMadeAnswer answer rounds old new → HasStatusCause answer 0 0 a b → b ≡ a
+    → Completes answer
 make_completes status.Done rounds a b old new answer cause same = tt
 make_completes status.Usage rounds a b old new answer cause same = absurd answer
 make_completes (status.Script fault) rounds a b old new answer cause same = absurd answer

@@ -71,7 +71,8 @@ module _ (conf : Configuration) (all : List IfSpec) where
   all_specs [] = refl
   all_specs (spec ∷ specs) = ap (λ others. spec ∷ others) (all_specs specs)
 
-pub managed_unlike : (conf : Configuration) (specs : List IfSpec) → AllPairs Unlike specs → AllPairs Unlike (map (λ (m : Managed). m.spec) (managed_of conf specs))
+pub managed_unlike : (conf : Configuration) (specs : List IfSpec) → AllPairs Unlike specs
+    → AllPairs Unlike (map (λ (m : Managed). m.spec) (managed_of conf specs))
 managed_unlike conf specs pairs = subst (AllPairs Unlike) (sym (managed_specs conf specs specs)) (AllPairs-filter Unlike (keeps conf specs) specs pairs)
 
 -- those that count from 1 have unlike numbers, and so have some of them
@@ -79,7 +80,8 @@ pub managed_numbered : (conf : Configuration) (specs : List IfSpec) → CountsFr
 managed_numbered conf specs counts =
     let together : List Managed = all_of conf specs specs in
     let all : AreNumbered together = counted 1 together (subst (CountsFrom 1) (sym (all_specs conf specs specs)) counts) in
-    let apart : IsDistinct nat_eq (map number_in specs) = subst (IsDistinct nat_eq) (each_number together ∙ ap (map number_in) (all_specs conf specs specs)) all in
+    let apart : IsDistinct nat_eq (map number_in specs) =
+    subst (IsDistinct nat_eq) (each_number together ∙ ap (map number_in) (all_specs conf specs specs)) all in
     subst (IsDistinct nat_eq) (sym (each_number (managed_of conf specs) ∙ ap (map number_in) (managed_specs conf specs specs)))
     (distinct_kept number_in (keeps conf specs) nat_eq specs apart)
 

@@ -18,7 +18,8 @@ no_fault : (bytes : List ℕ) (fault : ScriptFault) → IsFault bytes fault → 
 no_fault bytes fault bad script conf is = no_bad_line bytes script fault.line fault.cause is.spelled bad
 
 -- a script that the bytes spell, and a configuration of it, are those of the script that is replayed
-module _ (bytes : List ℕ) (script : ScriptLines) (spelled : Spells bytes script) (told : Result Configuration ConfFault) (is_conf : IsConfOf (configuration_text script) told) where
+module _ (bytes : List ℕ) (script : ScriptLines) (spelled : Spells bytes script) (told : Result Configuration ConfFault)
+    (is_conf : IsConfOf (configuration_text script) told) where
   same_told : (other : ScriptLines) (conf : Configuration) → IsScript bytes other conf → told ≡ Ok conf
   same_told other conf is =
       configuration_one (configuration_text other) told (Ok conf)

@@ -47,7 +47,8 @@ refused_unread (status.Schedule line) bytes refused = absurd refused
 refused_unread status.TooLong bytes refused = absurd refused
 refused_unread status.NoMemory bytes refused = tt
 
-pub refused_conf : (answer : Status) (bytes : List ℕ) (script : Script) → IsRead bytes script → IsConfRefused (configuration_text (script_of script)) answer → IsRefused bytes answer
+pub refused_conf : (answer : Status) (bytes : List ℕ) (script : Script) → IsRead bytes script → IsConfRefused (configuration_text (script_of script)) answer
+    → IsRefused bytes answer
 refused_conf status.Done bytes script read refused = absurd refused
 refused_conf status.Usage bytes script read refused = absurd refused
 refused_conf (status.Script fault) bytes script read refused = absurd refused
@@ -62,7 +63,8 @@ refused_conf (status.Schedule line) bytes script read refused = absurd refused
 refused_conf status.TooLong bytes script read refused = absurd refused
 refused_conf status.NoMemory bytes script read refused = tt
 
-pub refused_read : (bytes : List ℕ) (script : Script) (result : Result Settled Status) → IsRead bytes script → IfErr result (IsConfRefused (configuration_text (script_of script))) → IfErr result (IsRefused bytes)
+pub refused_read : (bytes : List ℕ) (script : Script) (result : Result Settled Status) → IsRead bytes script
+    → IfErr result (IsConfRefused (configuration_text (script_of script))) → IfErr result (IsRefused bytes)
 refused_read bytes script (Ok s) read refused = tt
 refused_read bytes script (Err answer) read refused = refused_conf answer bytes script read refused
 
@@ -77,7 +79,8 @@ is_settled bytes script s spelled is = record {
   managed = subst (λ (lines : ScriptLines). s.managed.items ≡ managed_in lines (configuration s.conf)) (sym is.script_is) is.managed;
 }
 
-pub settled_read : (bytes : List ℕ) (script : Script) (result : Result Settled Status) → IsRead bytes script → IfOk result (IsSettledAs (script_of script)) → IfOk result (IsSettled bytes)
+pub settled_read : (bytes : List ℕ) (script : Script) (result : Result Settled Status) → IsRead bytes script → IfOk result (IsSettledAs (script_of script))
+    → IfOk result (IsSettled bytes)
 settled_read bytes script (Ok s) read is = is_settled bytes (script_of script) s read.spelled is
 settled_read bytes script (Err answer) read is = tt
 
@@ -93,7 +96,8 @@ pub each_fits : (specs : List IfSpec) → FitInterfaces specs → AllByRecursion
 each_fits specs fits = specs_fit 1 specs (omega arith) (omega (arith, fits.few)) fits.counted
 
 -- what a configuration has in force fits, and shares lead to managed interfaces
-pub in_force : (text : List ℕ) (conf : Configuration) → IsConfOf text (Ok conf) → (specs : List IfSpec) → FitInterfaces specs → AreInForce (managed_of conf specs)
+pub in_force : (text : List ℕ) (conf : Configuration) → IsConfOf text (Ok conf) → (specs : List IfSpec) → FitInterfaces specs
+    → AreInForce (managed_of conf specs)
 in_force text conf is specs fits = settings_fit text conf is specs (each_fits specs fits)
 
 pub ifaces_fit : (bytes : List ℕ) (script : ScriptLines) (conf : Configuration) → IsScript bytes script conf → FitInterfaces script.ifaces

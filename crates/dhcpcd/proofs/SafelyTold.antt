@@ -72,7 +72,9 @@ module _ (text : List ℕ) (conf : Configuration) (is : IsConfOf text (Ok conf))
 
     pub life_tells : TellsSafely managed specs world
     life_tells = record {
-      jobs = life_jobs_are_safe managed specs (foretold_life managed specs world).opening (foretold_life managed specs world).mets lived.fit lived.opens lived.turns;
+      jobs =
+          life_jobs_are_safe managed specs (foretold_life managed specs world).opening
+          (foretold_life managed specs world).mets lived.fit lived.opens lived.turns;
       variables = variables_are_printable text managed specs (foretold_life managed specs world).opening (foretold_life managed specs world).mets configured;
       resolver = written_lines_are_safe managed specs (foretold_life managed specs world).opening (foretold_life managed specs world).mets lived;
     }
@@ -90,7 +92,8 @@ module _ (bytes : List ℕ) (script : ScriptLines) (conf : Configuration) (is : 
     tell_on failing (after_life (managed_in script conf) script.ifaces failing between life) lives fits.1,
   )
 
-  pub tells_safely : AllTellSafely (managed_in script conf) script.ifaces (failing_in script.fails) (at_first script.rows script.files script.polls) script.lives
+  pub tells_safely : AllTellSafely (managed_in script conf) script.ifaces (failing_in script.fails)
+      (at_first script.rows script.files script.polls) script.lives
   tells_safely =
       let fits : FitsScript script = spelled_fits bytes script is.spelled in
       tell_on (failing_in script.fails) (at_first script.rows script.files script.polls) script.lives

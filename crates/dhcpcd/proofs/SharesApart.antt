@@ -47,7 +47,8 @@ nothing_asked (x ∷ xs) = (tt, nothing_asked xs)
 
 -- ---- interfaces that count up are told apart by their numbers
 
-number_at : (first : ℕ) (specs : List IfSpec) → CountsFrom first specs → (i : ℕ) (default : IfSpec) → i < length specs → (get_or specs i default).index.number ≡ first + i
+number_at : (first : ℕ) (specs : List IfSpec) → CountsFrom first specs → (i : ℕ) (default : IfSpec) → i < length specs
+    → (get_or specs i default).index.number ≡ first + i
 number_at first [] counts i default within = absurd (omega (arith, within))
 number_at first (spec ∷ specs) counts zero default within = counts.0 ∙ omega arith
 number_at first (spec ∷ specs) counts (suc i) default within =
@@ -94,7 +95,8 @@ module _ (conf : Configuration) (specs : List IfSpec) (counts : CountsFrom 1 spe
         there other within true false e = unlike other within e
         there other within false named e = tt
 
-        by : (o : Option IfSpec) → IfSome o (Contains specs) → IfSome (option_map (share_with iaid share) (option_and_then (outlet_by conf upstream.name) o)) LeadsElsewhere
+        by : (o : Option IfSpec) → IfSome o (Contains specs)
+            → IfSome (option_map (share_with iaid share) (option_and_then (outlet_by conf upstream.name) o)) LeadsElsewhere
         by None within = tt
         by (Some other) within = there other within (is_managed conf other.name) (is_named upstream.name other.name) refl
 

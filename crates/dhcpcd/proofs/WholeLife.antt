@@ -48,9 +48,11 @@ pub record AreMade (failing : Failing) (between : Between) (life : LifeScript) (
   pub of_hooks : held.hooks.told ≡ between.hooks
   pub fails_hooks : held.hooks.failing ≡ failing.hooks
 
-pub made_first : (failing : Failing) (between : Between) (life : LifeScript) (held : Held) → AreMade failing between life held → world_after held ≡ Some (world_in failing between life)
+pub made_first : (failing : Failing) (between : Between) (life : LifeScript) (held : Held) → AreMade failing between life held
+    → world_after held ≡ Some (world_in failing between life)
 made_first failing between life held made =
-    λ i. world_from (told_from (Some (made.of_link i).told) (Some (made.of_link i).failing_sends)) (told_from (Some (made.of_host i)) (Some (made.fails_host i)))
+    λ i. world_from (told_from (Some (made.of_link i).told) (Some (made.of_link i).failing_sends))
+    (told_from (Some (made.of_host i)) (Some (made.fails_host i)))
     (told_from (Some (made.of_store i)) (Some (made.fails_store i))) (told_from (Some (made.of_hooks i)) (Some (made.fails_hooks i)))
 
 module _ (managed : List Managed) (specs : List IfSpec) (failing : Failing) (between : Between) (life : LifeScript) where
@@ -65,17 +67,23 @@ module _ (managed : List Managed) (specs : List IfSpec) (failing : Failing) (bet
   here = foretold_life managed specs (world_in failing between life)
 
   told_life : (seen : Seen) (opening : OpeningMet) (mets : List Met) → IsFirst seen → IsForetold managed specs seen opening mets → IsLifeOf opening mets here
-  told_life seen opening mets first told = subst (λ (w : Option World). IfSome w (λ world. IsLifeOf opening mets (foretold_life managed specs world))) first told
+  told_life seen opening mets first told =
+      subst (λ (w : Option World). IfSome w (λ world. IsLifeOf opening mets (foretold_life managed specs world))) first told
 
-  told_lines : (seen : Seen) (opening : OpeningMet) (mets : List Met) → IsFirst seen → IsForetold managed specs seen opening mets → life_lines opening mets ≡ its_lines
+  told_lines : (seen : Seen) (opening : OpeningMet) (mets : List Met) → IsFirst seen → IsForetold managed specs seen opening mets
+      → life_lines opening mets ≡ its_lines
   unfolding lines_in
-  told_lines seen opening mets first told = let are : IsLifeOf opening mets here = told_life seen opening mets first told in sym (λ i. life_lines (are.opening_is i) (are.mets_are i))
+  told_lines seen opening mets first told =
+      let are : IsLifeOf opening mets here = told_life seen opening mets first told in sym (λ i. life_lines (are.opening_is i) (are.mets_are i))
 
-  pub served_life : (seen new_seen : Seen) (old new : Option (List ℕ)) → IsFirst seen → (allowed : ℕ) (served : Served allowed managed specs seen new_seen old new) → IsLifeOf served.opening served.mets here
+  pub served_life : (seen new_seen : Seen) (old new : Option (List ℕ)) → IsFirst seen
+      → (allowed : ℕ) (served : Served allowed managed specs seen new_seen old new) → IsLifeOf served.opening served.mets here
   served_life seen new_seen old new first allowed served = told_life seen served.opening served.mets first served.foretold
 
-  pub lived : (seen new_seen : Seen) (old new : Option (List ℕ)) → IsFirst seen → (allowed : ℕ) → Served allowed managed specs seen new_seen old new → WritesLines old new its_lines
-  lived seen new_seen old new first allowed served = subst (λ (l : List Line). WritesLines old new l) (told_lines seen served.opening served.mets first served.foretold) served.written
+  pub lived : (seen new_seen : Seen) (old new : Option (List ℕ)) → IsFirst seen → (allowed : ℕ) → Served allowed managed specs seen new_seen old new
+      → WritesLines old new its_lines
+  lived seen new_seen old new first allowed served =
+      subst (λ (l : List Line). WritesLines old new l) (told_lines seen served.opening served.mets first served.foretold) served.written
 
   module _ (seen new_seen : Seen) (first : IsFirst seen) (allowed : ℕ) (old new : Option (List ℕ)) where
     cut_in_opening : (end : ServeEnd) → CutOpening end managed specs seen new_seen old new → WritesFront old new [] its_lines
@@ -92,48 +100,57 @@ module _ (managed : List Managed) (specs : List IfSpec) (failing : Failing) (bet
     untouched same = subst (λ (o : Option (List ℕ)). WritesFront old o [] its_lines) (sym same) (front_none old its_lines)
 
     -- a write failed in the life, or memory was wanted
-    pub stops_life : (end : ServeEnd) → (end ≡ ends.WriteFault) ⊎ (end ≡ ends.NoMemory) → Leaves end allowed managed specs seen new_seen old new → WritesFront old new [] its_lines
+    pub stops_life : (end : ServeEnd) → (end ≡ ends.WriteFault) ⊎ (end ≡ ends.NoMemory) → Leaves end allowed managed specs seen new_seen old new
+        → WritesFront old new [] its_lines
     stops_life ends.End is leaves = ⊎_elim (λ e. absurd cc) (λ e. absurd cc) is
     stops_life ends.TurnsOver is cut = cut_later ends.TurnsOver cut
     stops_life ends.LinkFault is leaves = ⊎_elim (λ unbegun. untouched unbegun.0) (cut_later ends.LinkFault) leaves
     stops_life ends.WriteFault is leaves = ⊎_elim (cut_in_opening ends.WriteFault) (cut_later ends.WriteFault) leaves
-    stops_life ends.NoMemory is leaves = ⊎_elim (λ unwritten. untouched unwritten.0) (λ later. ⊎_elim (cut_in_opening ends.NoMemory) (cut_later ends.NoMemory) later) leaves
+    stops_life ends.NoMemory is leaves =
+        ⊎_elim (λ unwritten. untouched unwritten.0) (λ later. ⊎_elim (cut_in_opening ends.NoMemory) (cut_later ends.NoMemory) later) leaves
 
 -- a front may be the whole
 pub front_whole : (old new : Option (List ℕ)) (all : List Line) → WritesLines old new all → WritesFront old new [] all
 front_whole old new all written = subst (WritesFront old new []) (append-nil all) (front_then old new new all [] written (front_none new []))
 
 -- the line that begins a life, and then its lines
-module _ (managed : List Managed) (specs : List IfSpec) (failing : Failing) (between : Between) (life : LifeScript) (number : ℕ) (is : number ≡ between.lives + 1) where
+module _ (managed : List Managed) (specs : List IfSpec) (failing : Failing) (between : Between) (life : LifeScript) (number : ℕ)
+    (is : number ≡ between.lives + 1) where
   abbrev after_number : List Line
   after_number = lines_in managed specs failing between life
 
   same_life : lines.Life number ∷ after_number ≡ life_in managed specs failing between life
   same_life = ap (λ (n : ℕ). lines.Life n ∷ after_number) is
 
-  pub front_of_number : (old new : Option (List ℕ)) → WritesFront old new [] (lines.Life number ∷ []) → WritesFront old new [] (life_in managed specs failing between life)
+  pub front_of_number : (old new : Option (List ℕ)) → WritesFront old new [] (lines.Life number ∷ [])
+      → WritesFront old new [] (life_in managed specs failing between life)
   front_of_number old new front = subst (WritesFront old new []) same_life (front_wider old new [] (lines.Life number ∷ []) after_number front)
 
-  pub front_of_lines : (old mid new : Option (List ℕ)) → WritesLines old mid (lines.Life number ∷ []) → WritesFront mid new [] after_number → WritesFront old new [] (life_in managed specs failing between life)
+  pub front_of_lines : (old mid new : Option (List ℕ)) → WritesLines old mid (lines.Life number ∷ []) → WritesFront mid new [] after_number
+      → WritesFront old new [] (life_in managed specs failing between life)
   front_of_lines old mid new begun front = subst (WritesFront old new []) same_life (front_then old mid new (lines.Life number ∷ []) after_number begun front)
 
-  pub lived_whole : (old mid new : Option (List ℕ)) → WritesLines old mid (lines.Life number ∷ []) → WritesLines mid new after_number → WritesLines old new (life_in managed specs failing between life)
+  pub lived_whole : (old mid new : Option (List ℕ)) → WritesLines old mid (lines.Life number ∷ []) → WritesLines mid new after_number
+      → WritesLines old new (life_in managed specs failing between life)
   lived_whole old mid new begun written = subst (WritesLines old new) same_life (lines_then old mid new (lines.Life number ∷ []) after_number begun written)
 
 -- fewer wakes come than are allowed
-pub all_come : (life : LifeScript) (sent : ℕ) (sends : List ℕ) (link : LinkState) → link ≡ link_of life sent sends → length life.turns + 1 ≤ length link.told.coming → ⊥
+pub all_come : (life : LifeScript) (sent : ℕ) (sends : List ℕ) (link : LinkState) → link ≡ link_of life sent sends
+    → length life.turns + 1 ≤ length link.told.coming → ⊥
 all_come life sent sends link begins many =
     let count : length link.told.coming ≡ length life.turns = ap (λ (l : LinkState). length l.told.coming) begins in
     omega (arith, count, many)
 
 -- lines that were made in a text of their own, and written
-pub head_written : (old new : Option (List ℕ)) (start bytes text : List ℕ) (head : List Line) → start ≡ [] → Prints start text head → bytes ≡ text → WritesBytes old new bytes → WritesLines old new head
+pub head_written : (old new : Option (List ℕ)) (start bytes text : List ℕ) (head : List Line) → start ≡ [] → Prints start text head → bytes ≡ text
+    → WritesBytes old new bytes → WritesLines old new head
 head_written None new start bytes text head empty printed same written = written
 head_written (Some before) new start bytes text head empty printed same written =
     written ∙ ap (λ (x : List ℕ). Some (before ++ x)) (same ∙ printed.appended ∙ ap (λ (s : List ℕ). s ++ lines_text head) empty)
 
 -- of these, a front
-pub front_of_head : (old new : Option (List ℕ)) (start bytes text : List ℕ) (head : List Line) → start ≡ [] → Prints start text head → bytes ≡ text → WritesSome old new bytes → WritesFront old new [] head
+pub front_of_head : (old new : Option (List ℕ)) (start bytes text : List ℕ) (head : List Line) → start ≡ [] → Prints start text head → bytes ≡ text
+    → WritesSome old new bytes → WritesFront old new [] head
 front_of_head old new start bytes text head empty printed same some = front_some old new start bytes text head empty printed same some
 
 -- a front of the first lines is one of all

@@ -28,4 +28,5 @@ failing_with sends between = record {
 
 -- a life over the devices that the life before it left
 abbrev pub life_over : List Managed → List IfSpec → (sends : List ℕ) → Between → LifeScript → List Line
-life_over managed specs sends between life = life_in managed specs (failing_with sends between) (between_in between) life
+life_over managed specs sends between life =
+    life_in managed specs (failing_with sends between) (between_in between) life

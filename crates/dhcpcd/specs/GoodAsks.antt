@@ -26,7 +26,8 @@ AskGoodDump words input = AskDump words × Serves dumping input
 
 -- `import` is asked for, and the input tells a capture
 abbrev pub AskGoodImport : (words : List (List ℕ)) → (input : Option (List ℕ)) → Type 0
-AskGoodImport words input = (name : Name) × (mac : Mac) × AsksImport words name mac × Serves (importing (spec_of name mac)) input
+AskGoodImport words input =
+    (name : Name) × (mac : Mac) × AsksImport words name mac × Serves (importing (spec_of name mac)) input
 
 -- `lab` is asked for, and the input tells a schedule
 abbrev pub AskGoodLab : (words : List (List ℕ)) → (input : Option (List ℕ)) → Type 0

@@ -8,7 +8,8 @@ limit = 16777216
 -- bytes were moved from the front of what was left to the end of what was read
 abbrev pub Moves : Option (List ℕ) → Option (List ℕ) → List ℕ → List ℕ → ℕ → Type 0
 Moves None left read_old read_new n = left ≡ None
-Moves (Some bytes) left read_old read_new n = (n ≤ length bytes) × (read_new ≡ read_old ++ take n bytes) × (left ≡ Some (drop n bytes)) × (n ≡ 0 → bytes ≡ [])
+Moves (Some bytes) left read_old read_new n =
+    (n ≤ length bytes) × (read_new ≡ read_old ++ take n bytes) × (left ≡ Some (drop n bytes)) × (n ≡ 0 → bytes ≡ [])
 
 -- so many bytes were taken from the front of what was left, where that is told
 abbrev pub Takes : ℕ → Option (List ℕ) → Option (List ℕ) → Type 0

@@ -60,7 +60,8 @@ pub record Around : Type 0 where
   pub seen_to : Seen
 
 abbrev pub around : (out_from out_to : Option (List ℕ)) → (seen_from seen_to : Seen) → Around
-around out_from out_to seen_from seen_to = record { out_from = out_from; out_to = out_to; seen_from = seen_from; seen_to = seen_to }
+around out_from out_to seen_from seen_to =
+    record { out_from = out_from; out_to = out_to; seen_from = seen_from; seen_to = seen_to }
 
 -- what is asked for: the text of a configuration with what it says, the interfaces, and how many turns are allowed
 pub record Asked : Type 0 where
@@ -75,7 +76,8 @@ asked text conf specs turns = record { text = text; conf = conf; specs = specs; 
 abbrev pub head_of : Asked → List Line
 head_of ask = live_head ask.text ask.conf.notices ask.specs
 
--- the head was written, and then the life was lived to its end and its lines written; at each moment its files were whole
+-- the head was written, and then the life was lived to its end and its lines written; at each moment its files were
+-- whole
 pub record IsServed (ask : Asked) (told : Around) : Type 0 where
   pub middle : Option (List ℕ)
   pub head : WritesLines told.out_from middle (head_of ask)
@@ -86,7 +88,8 @@ pub record IsServed (ask : Asked) (told : Around) : Type 0 where
 pub record IsCutOff (end : ServeEnd) (ask : Asked) (told : Around) : Type 0 where
   pub middle : Option (List ℕ)
   pub head : WritesLines told.out_from middle (head_of ask)
-  pub left : Leaves end ask.turns (managed_of ask.conf ask.specs) ask.specs told.seen_from told.seen_to middle told.out_to
+  pub left : Leaves end ask.turns
+      (managed_of ask.conf ask.specs) ask.specs told.seen_from told.seen_to middle told.out_to
   pub files : LeavesFiled (managed_of ask.conf ask.specs) ask.specs told.seen_from told.seen_to
 
 -- a front of the head was written, maybe none of it, and no device was asked
@@ -109,19 +112,24 @@ IsLifeAnswer other ask told = ⊥
 abbrev pub IsUntouched : Around → Type 0
 IsUntouched told = (told.out_to ≡ told.out_from) × (told.seen_to ≡ told.seen_from)
 
--- The input was a configuration, and this became of its life. Over devices that tell what they hold, the host and the store hold
--- what they shall, and hooks and the resolver are told what is safe to read; over a sound store files are whole at each moment.
-pub record IsLived (answer : Status) (specs : List IfSpec) (turns : ℕ) (input : Option (List ℕ)) (told : Around) : Type 0 where
+-- The input was a configuration, and this became of its life. Over devices that tell what they hold, the host and the
+-- store hold what they shall, and hooks and the resolver are told what is safe to read; over a sound store files are
+-- whole at each moment.
+pub record IsLived (answer : Status) (specs : List IfSpec) (turns : ℕ) (input : Option (List ℕ))
+    (told : Around) : Type 0 where
   pub text : List ℕ
   pub conf : Configuration
   pub read : IsInput input text
   pub in_limit : length text ≤ limit
   pub configured : IsConfOf text (Ok conf)
   pub lived : IsLifeAnswer answer (asked text conf specs turns) told
-  pub host : IfSome (world_of told.seen_from) (λ world. IsSound world → HoldsRightly (managed_of conf specs) specs world)
-  pub files : IfSome (world_of told.seen_from) (λ world. IsSound world → KeepsRightly (managed_of conf specs) specs world)
+  pub host : IfSome (world_of told.seen_from)
+      (λ world. IsSound world → HoldsRightly (managed_of conf specs) specs world)
+  pub files : IfSome (world_of told.seen_from)
+      (λ world. IsSound world → KeepsRightly (managed_of conf specs) specs world)
   pub safe : IfSome (world_of told.seen_from) (λ world. IsSound world → TellsSafely (managed_of conf specs) specs world)
-  pub whole : IfSome (world_of told.seen_from) (λ world. stores.IsSound world.store.told → LivesWhole (managed_of conf specs) specs world)
+  pub whole : IfSome (world_of told.seen_from)
+      (λ world. stores.IsSound world.store.told → LivesWhole (managed_of conf specs) specs world)
 
 -- the configuration was refused, for this
 abbrev pub IsLiveRefusal : (because : List ℕ → Type 0) → Option (List ℕ) → Around → Type 0
@@ -141,7 +149,8 @@ IsLiveAnswer status.NoMemory specs turns input told = IsUntouched told ⊎ IsLiv
 IsLiveAnswer answer specs turns input told = IsLived answer specs turns input told
 
 -- the words ask for a life over these interfaces, and this was answered
-pub record IsAnsweredLive (words : List (List ℕ)) (answer : Status) (turns : ℕ) (input : Option (List ℕ)) (told : Around) : Type 0 where
+pub record IsAnsweredLive (words : List (List ℕ)) (answer : Status) (turns : ℕ) (input : Option (List ℕ))
+    (told : Around) : Type 0 where
   pub specs : List IfSpec
   pub asks : AsksLive words specs
   pub answers : IsLiveAnswer answer specs turns input told

@@ -30,7 +30,8 @@ abbrev pub first_store : List StoreFile → StoreTold
 first_store files = store_holding (in_name_order files)
 
 abbrev pub store_of : List StoreFile → List FailLine → StoreState
-store_of files fails = record { told = first_store files; failing = record { numbers = failing_calls Store fails; from = None } }
+store_of files fails =
+    record { told = first_store files; failing = record { numbers = failing_calls Store fails; from = None } }
 
 abbrev pub first_host : List HostRow → HostTold
 first_host rows = record { rows = in_row_order rows; calls = [] }

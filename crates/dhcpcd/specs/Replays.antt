@@ -70,8 +70,8 @@ store_left (Some crash) told = after_crash (pick_of crash.kind) told
 
 -- ---- lives
 
--- what goes on from one life to the next: how many lives there were, how many frames were offered, the host, the store and the
--- answers of hooks
+-- what goes on from one life to the next: how many lives there were, how many frames were offered, the host, the store
+-- and the answers of hooks
 pub record Between : Type 0 where
   pub lives : ℕ
   pub sent : ℕ
@@ -80,7 +80,8 @@ pub record Between : Type 0 where
   pub hooks : HooksTold
 
 abbrev pub at_first : List HostRow → List StoreFile → (polls : List (Option Poll)) → Between
-at_first rows files polls = record { lives = 0; sent = 0; host = first_host rows; store = first_store files; hooks = first_hooks polls }
+at_first rows files polls =
+    record { lives = 0; sent = 0; host = first_host rows; store = first_store files; hooks = first_hooks polls }
 
 -- the devices of a life, as the life before left them
 abbrev pub world_in : Failing → Between → LifeScript → World
@@ -121,17 +122,20 @@ after_life managed specs failing between life =
 
 -- the life of the abstract client over these devices
 unfoldable pub lines_in : List Managed → List IfSpec → Failing → Between → LifeScript → List Line
-lines_in managed specs failing between life = life_lines (opening_in managed specs failing between life) (mets_in managed specs failing between life)
+lines_in managed specs failing between life =
+    life_lines (opening_in managed specs failing between life) (mets_in managed specs failing between life)
 
 -- with its number
 abbrev pub life_in : List Managed → List IfSpec → Failing → Between → LifeScript → List Line
-life_in managed specs failing between life = lines.Life (between.lives + 1) ∷ lines_in managed specs failing between life
+life_in managed specs failing between life =
+    lines.Life (between.lives + 1) ∷ lines_in managed specs failing between life
 
 -- lives one after another
 abbrev pub lives_lines : List Managed → List IfSpec → Failing → Between → List LifeScript → List Line
 lives_lines managed specs failing between [] = []
 lives_lines managed specs failing between (life ∷ lives) =
-    life_in managed specs failing between life ++ lives_lines managed specs failing (after_life managed specs failing between life) lives
+    life_in managed specs failing between life
+    ++ lives_lines managed specs failing (after_life managed specs failing between life) lives
 
 -- ---- the transcript
 
@@ -141,14 +145,17 @@ notice_line notice = lines.Notice notice.line notice.word
 
 -- what precedes lives: the lines of the configuration, those of it that do nothing, and the interfaces
 abbrev pub heading : (conf : List (List ℕ)) → List NoticeContent → List IfSpec → List Line
-heading conf notices specs = lines.Head ∷ (map lines.Conf conf ++ (map notice_line notices ++ map lines.Interface specs))
+heading conf notices specs =
+    lines.Head ∷ (map lines.Conf conf ++ (map notice_line notices ++ map lines.Interface specs))
 
 unfoldable pub head_lines : ScriptLines → List NoticeContent → List Line
 head_lines script notices = heading script.conf notices script.ifaces
 
 -- the lives with these managed interfaces; others are told of, and left alone
 abbrev pub lives_of_script : List Managed → ScriptLines → List Line
-lives_of_script managed script = lives_lines managed script.ifaces (failing_in script.fails) (at_first script.rows script.files script.polls) script.lives
+lives_of_script managed script =
+    lives_lines managed script.ifaces (failing_in script.fails)
+    (at_first script.rows script.files script.polls) script.lives
 
 abbrev pub managed_in : ScriptLines → Configuration → List Managed
 managed_in script conf = managed_of conf script.ifaces

@@ -29,8 +29,8 @@ status_number (status.Lease line) = 13
 status_number (status.Capture cause) = 14
 status_number (status.Schedule line) = 15
 
--- The input was a script, and its transcript was written. In its lives the host and the store hold what they shall, files are whole, and what
--- hooks and the resolver are told is safe to read.
+-- The input was a script, and its transcript was written. In its lives the host and the store hold what they shall,
+-- files are whole, and what hooks and the resolver are told is safe to read.
 pub record IsReplayed (input : Option (List ℕ)) (old new : Option (List ℕ)) : Type 0 where
   pub bytes : List ℕ
   pub script : ScriptLines
@@ -39,10 +39,14 @@ pub record IsReplayed (input : Option (List ℕ)) (old new : Option (List ℕ)) 
   pub in_limit : length bytes ≤ limit
   pub is_script : IsScript bytes script conf
   pub written : WritesLines old new (transcript script conf)
-  pub host : AllHoldRightly (managed_in script conf) script.ifaces (failing_in script.fails) (at_first script.rows script.files script.polls) script.lives
-  pub files : AllKeepRightly (managed_in script conf) script.ifaces (failing_in script.fails) (at_first script.rows script.files script.polls) script.lives
-  pub whole : AllStayWhole (managed_in script conf) script.ifaces (failing_in script.fails) (at_first script.rows script.files script.polls) script.lives
-  pub safe : AllTellSafely (managed_in script conf) script.ifaces (failing_in script.fails) (at_first script.rows script.files script.polls) script.lives
+  pub host : AllHoldRightly (managed_in script conf) script.ifaces (failing_in script.fails)
+      (at_first script.rows script.files script.polls) script.lives
+  pub files : AllKeepRightly (managed_in script conf) script.ifaces (failing_in script.fails)
+      (at_first script.rows script.files script.polls) script.lives
+  pub whole : AllStayWhole (managed_in script conf) script.ifaces (failing_in script.fails)
+      (at_first script.rows script.files script.polls) script.lives
+  pub safe : AllTellSafely (managed_in script conf) script.ifaces (failing_in script.fails)
+      (at_first script.rows script.files script.polls) script.lives
 
 -- the input was a script, and a front of the bytes of its transcript was written
 pub record IsStopped (input : Option (List ℕ)) (old new : Option (List ℕ)) : Type 0 where

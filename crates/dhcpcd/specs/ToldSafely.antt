@@ -19,9 +19,9 @@ life_calls managed specs world =
     let lived = foretold_life managed specs world in
     lived.opening.calls ++ turns_calls lived.opening.life lived.mets
 
--- Each job that it starts or drops is of a managed interface and runs the script that is configured there; what is made of its event is of the
--- form that its name tells, and each of its variables is printable. Each text that is written to take the place of the resolver's file is
--- lines of names and addresses.
+-- Each job that it starts or drops is of a managed interface and runs the script that is configured there; what is made
+-- of its event is of the form that its name tells, and each of its variables is printable. Each text that is written to
+-- take the place of the resolver's file is lines of names and addresses.
 pub record TellsSafely (managed : List Managed) (specs : List IfSpec) (world : World) : Type 0 where
   pub jobs : AreSafeJobs managed (flat_map job_in (life_calls managed specs world))
   pub variables : AllByRecursion HasPlainVariables (flat_map job_in (life_calls managed specs world))
@@ -31,4 +31,5 @@ pub record TellsSafely (managed : List Managed) (specs : List IfSpec) (world : W
 abbrev pub AllTellSafely : List Managed → List IfSpec → Failing → Between → List LifeScript → Type 0
 AllTellSafely managed specs failing between [] = Unit {0}
 AllTellSafely managed specs failing between (life ∷ lives) =
-    TellsSafely managed specs (world_in failing between life) × AllTellSafely managed specs failing (after_life managed specs failing between life) lives
+    TellsSafely managed specs (world_in failing between life)
+    × AllTellSafely managed specs failing (after_life managed specs failing between life) lives

@@ -49,7 +49,9 @@ AskLab words = words ≡ codes "lab" ∷ []
 
 -- the words are of one of these forms
 abbrev pub AskWork : List (List ℕ) → Type 0
-AskWork words = AskReplay words ⊎ (AskCheck words ⊎ (AskLive words ⊎ (AskMake words ⊎ (AskDump words ⊎ (AskImport words ⊎ AskLab words)))))
+AskWork words =
+    AskReplay words
+    ⊎ (AskCheck words ⊎ (AskLive words ⊎ (AskMake words ⊎ (AskDump words ⊎ (AskImport words ⊎ AskLab words)))))
 
 -- what words of none of these forms are answered; only those that begin with `live` may want memory
 abbrev pub IsUsage : List (List ℕ) → Status → Type 0

@@ -1,4 +1,5 @@
--- A work that reads the whole of its input, makes a text of it, and writes that: what it answers, by what it makes of bytes.
+-- A work that reads the whole of its input, makes a text of it, and writes that: what it answers, by what it makes of
+-- bytes.
 use Rattle.std.specs.Prelude.{ℕ, ◌≡◌, ◌≤◌, ◌⊎◌, List, length, Option, Some}
 use Rattle.daemon.specs.Streams.{WritesBytes, WritesSome}
 use Rattle.dhcpcd.specs.declared.status.Status.{Status}
@@ -12,7 +13,8 @@ pub record Work : Type 1 where
   pub Refuses : List ℕ → Status → Type 0
 
 -- the input was read whole and gave a text, and this was written of it
-pub record IsGiven (Gives : List ℕ → List ℕ → Type 0) (Writes : List ℕ → Type 0) (input : Option (List ℕ)) : Type 0 where
+pub record IsGiven (Gives : List ℕ → List ℕ → Type 0) (Writes : List ℕ → Type 0)
+    (input : Option (List ℕ)) : Type 0 where
   pub bytes : List ℕ
   pub text : List ℕ
   pub read : IsInput input bytes

@@ -29,14 +29,18 @@ impl TextWork for DumpWork {
     }
 }
 
-/// Reads a lease file of at most 16,777,216 bytes from the input, and writes a line `NAME=VALUE` for each of its variables.
+/// Reads a lease file of at most 16,777,216 bytes from the input, and writes a line `NAME=VALUE` for each of its
+/// variables.
 #[tactic(auto, using(crate::proofs::InputWorks::dumping_is_decided))]
 pub fn dump_lease<I: Source, O: Sink>(alloc: Global, input: &mut I, out: &mut O) -> Status
     ensures answer { IsDumpAnswer result (I.left input.old) (O.written out.old) (O.written out.new) }
     ensures cause { HasStatusCause result (I.faults input.old) (I.faults input.new) (O.faults out.old) (O.faults out.new) }
-    ensures complete { Serves dumping (I.left input.old) → I.faults input.new ≡ I.faults input.old → O.faults out.new ≡ O.faults out.old → Completes result }
-    ensures serves { Serves dumping (I.left input.old) → I.never_fails input.old ≡ true → O.never_fails out.old ≡ true → Completes result }
-    ensures reads { ReadsWithin (input_told (I.left input.old) (I.taken input.old) (I.reads input.old)) (input_told (I.left input.new) (I.taken input.new) (I.reads input.new)) }
+    ensures complete { Serves dumping (I.left input.old) → I.faults input.new ≡ I.faults input.old
+        → O.faults out.new ≡ O.faults out.old → Completes result }
+    ensures serves { Serves dumping (I.left input.old) → I.never_fails input.old ≡ true → O.never_fails out.old ≡ true
+        → Completes result }
+    ensures reads { ReadsWithin (input_told (I.left input.old) (I.taken input.old) (I.reads input.old))
+        (input_told (I.left input.new) (I.taken input.new) (I.reads input.new)) }
 {
     perform(alloc, &DumpWork, input, out)
 }

@@ -88,7 +88,8 @@ pub fn say_notices(notices: &[Notice], text: &mut Vec<u8>) -> Result<(), NoMemor
 /// Appends the lines before the first life.
 #[tactic(auto, using(device_calls::proofs::Printings::prints_then), unfolding(crate::specs::Replays::head_lines))]
 pub fn say_head(script: &Script, notices: &[Notice], text: &mut Vec<u8>) -> Result<(), NoMemory>
-    ensures { OnOk result (Prints text.old.items text.new.items (head_lines (script_of script.now) (map notice_content notices.now))) }
+    ensures { OnOk result
+        (Prints text.old.items text.new.items (head_lines (script_of script.now) (map notice_content notices.now))) }
 {
     say(&TranscriptLine::Head, text)?;
     say_ended(&script.conf, text)?;
@@ -100,7 +101,9 @@ pub fn say_head(script: &Script, notices: &[Notice], text: &mut Vec<u8>) -> Resu
 /// Appends the lines before the one life of `live`: the head, and the life's number.
 #[tactic(auto, using(device_calls::proofs::Printings::prints_then), unfolding(crate::specs::Living::live_head))]
 pub fn say_live_head(start: &Start<'_>, text: &mut Vec<u8>) -> Result<(), NoMemory>
-    ensures { OnOk result (Prints text.old.items text.new.items (live_head start.now.text.now (map notice_content start.now.notices.now) start.now.specs.now)) }
+    ensures { OnOk result
+        (Prints text.old.items text.new.items
+        (live_head start.now.text.now (map notice_content start.now.notices.now) start.now.specs.now)) }
 {
     say(&TranscriptLine::Head, text)?;
     say_text(start.text, text)?;

@@ -40,11 +40,15 @@ pub fn import_capture<I: Source, O: Sink>(
     input: &mut I,
     out: &mut O,
 ) -> Status
-    ensures answer { IsImportAnswer (spec_of on.name on.mac) result (I.left input.old) (O.written out.old) (O.written out.new) }
+    ensures answer { IsImportAnswer (spec_of on.name on.mac) result (I.left input.old) (O.written out.old)
+        (O.written out.new) }
     ensures cause { HasStatusCause result (I.faults input.old) (I.faults input.new) (O.faults out.old) (O.faults out.new) }
-    ensures complete { Serves (importing (spec_of on.name on.mac)) (I.left input.old) → I.faults input.new ≡ I.faults input.old → O.faults out.new ≡ O.faults out.old → Completes result }
-    ensures serves { Serves (importing (spec_of on.name on.mac)) (I.left input.old) → I.never_fails input.old ≡ true → O.never_fails out.old ≡ true → Completes result }
-    ensures reads { ReadsWithin (input_told (I.left input.old) (I.taken input.old) (I.reads input.old)) (input_told (I.left input.new) (I.taken input.new) (I.reads input.new)) }
+    ensures complete { Serves (importing (spec_of on.name on.mac)) (I.left input.old)
+        → I.faults input.new ≡ I.faults input.old → O.faults out.new ≡ O.faults out.old → Completes result }
+    ensures serves { Serves (importing (spec_of on.name on.mac)) (I.left input.old) → I.never_fails input.old ≡ true
+        → O.never_fails out.old ≡ true → Completes result }
+    ensures reads { ReadsWithin (input_told (I.left input.old) (I.taken input.old) (I.reads input.old))
+        (input_told (I.left input.new) (I.taken input.new) (I.reads input.new)) }
 {
     perform(alloc, &on, input, out)
 }

@@ -17,10 +17,15 @@ const PIECE: usize = 65_536;
 fn read_some<I: Source>(input: &mut I, piece: &mut [u8], all: &mut Vec<u8>) -> Result<usize, Status>
     requires { 0 < length piece.old }
     ensures moved { IfOk result (λ n. Moves (I.left input.old) (I.left input.new) all.old.items all.new.items n) }
-    ensures count { IfOk result (λ n. (vec_len all.new ≡ vec_len all.old + n) × (n ≤ length piece.old) × (I.faults input.old ≤ I.faults input.new)) }
-    ensures cause { IfErr result (λ status. HasStatusCause status (I.faults input.old) (I.faults input.new) 0 0 × StopsReading status) }
+    ensures count { IfOk result
+        (λ n. (vec_len all.new ≡ vec_len all.old + n) × (n ≤ length piece.old)
+        × (I.faults input.old ≤ I.faults input.new)) }
+    ensures cause { IfErr result
+        (λ status. HasStatusCause status (I.faults input.old) (I.faults input.new) 0 0 × StopsReading status) }
     ensures counted { IfOk result (λ n. CountsTaken n (I.taken input.old) (I.taken input.new)) }
-    ensures taken { IfErr result (λ _. TakesSome (length piece.old) (input_told (I.left input.old) (I.taken input.old) (I.reads input.old)) (input_told (I.left input.new) (I.taken input.new) (I.reads input.new))) }
+    ensures taken { IfErr result
+        (λ _. TakesSome (length piece.old) (input_told (I.left input.old) (I.taken input.old) (I.reads input.old))
+        (input_told (I.left input.new) (I.taken input.new) (I.reads input.new))) }
     ensures reads { I.reads input.new ≤ I.reads input.old + 1 }
     ensures steady { I.never_fails input.old ≡ true → I.faults input.new ≡ I.faults input.old }
     ensures stays { I.never_fails input.new ≡ I.never_fails input.old }
@@ -47,9 +52,11 @@ fn piece_buffer(alloc: Global) -> Result<Vec<u8>, NoMemory>
 pub fn read_all<I: Source>(alloc: Global, input: &mut I) -> Result<Vec<u8>, Status>
     ensures ok { IfOk result (λ all. IsInput (I.left input.old) all.items × (I.faults input.old ≤ I.faults input.new)) }
     ensures in_limit { IfOk result (λ all. length all.items ≤ limit) }
-    ensures cause { IfErr result (λ status. HasStatusCause status (I.faults input.old) (I.faults input.new) 0 0 × StopsReading status) }
+    ensures cause { IfErr result
+        (λ status. HasStatusCause status (I.faults input.old) (I.faults input.new) 0 0 × StopsReading status) }
     ensures too_long { result ≡ Err Status.TooLong → IsTooLong (I.left input.old) }
-    ensures reads { ReadsWithin (input_told (I.left input.old) (I.taken input.old) (I.reads input.old)) (input_told (I.left input.new) (I.taken input.new) (I.reads input.new)) }
+    ensures reads { ReadsWithin (input_told (I.left input.old) (I.taken input.old) (I.reads input.old))
+        (input_told (I.left input.new) (I.taken input.new) (I.reads input.new)) }
     ensures steady { I.never_fails input.old ≡ true → I.faults input.new ≡ I.faults input.old }
     ensures stays { I.never_fails input.new ≡ I.never_fails input.old }
 {

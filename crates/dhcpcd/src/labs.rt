@@ -46,16 +46,19 @@ impl TextWork for LabWork {
     }
 }
 
-/// Reads a schedule of at most 16,777,216 bytes from the input, and writes what its clients and their server send, and which leases
-/// are held.
+/// Reads a schedule of at most 16,777,216 bytes from the input, and writes what its clients and their server send, and
+/// which leases are held.
 #[tactic(auto, using(crate::proofs::InputWorks::lab_is_decided, crate::proofs::LabsApart::lab_is_apart))]
 pub fn lab<I: Source, O: Sink>(alloc: Global, input: &mut I, out: &mut O) -> Status
     ensures answer { IsLabAnswer result (I.left input.old) (O.written out.old) (O.written out.new) }
     ensures apart { result ≡ Status.Done → IsHeldApart (I.left input.old) (O.written out.old) (O.written out.new) }
     ensures cause { HasStatusCause result (I.faults input.old) (I.faults input.new) (O.faults out.old) (O.faults out.new) }
-    ensures complete { Serves lab_work (I.left input.old) → I.faults input.new ≡ I.faults input.old → O.faults out.new ≡ O.faults out.old → Completes result }
-    ensures serves { Serves lab_work (I.left input.old) → I.never_fails input.old ≡ true → O.never_fails out.old ≡ true → Completes result }
-    ensures reads { ReadsWithin (input_told (I.left input.old) (I.taken input.old) (I.reads input.old)) (input_told (I.left input.new) (I.taken input.new) (I.reads input.new)) }
+    ensures complete { Serves lab_work (I.left input.old) → I.faults input.new ≡ I.faults input.old
+        → O.faults out.new ≡ O.faults out.old → Completes result }
+    ensures serves { Serves lab_work (I.left input.old) → I.never_fails input.old ≡ true → O.never_fails out.old ≡ true
+        → Completes result }
+    ensures reads { ReadsWithin (input_told (I.left input.old) (I.taken input.old) (I.reads input.old))
+        (input_told (I.left input.new) (I.taken input.new) (I.reads input.new)) }
 {
     perform(alloc, &LabWork, input, out)
 }

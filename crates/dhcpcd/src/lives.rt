@@ -33,12 +33,21 @@ fn replay_life<O: Sink>(
     requires managed { AreManaged managed.now }
     requires few { between.lives + 1 < 2 ^ 64 }
     requires childless { between.hooks.running ≡ false }
-    ensures ok { IfOk result (λ _. (O.faults out.old ≤ O.faults out.new) × WritesLines (O.written out.old) (O.written out.new) (life_over managed.now specs.now sends.now between (content.life_of life))) }
-    ensures left { IfOk result (λ next. between_in next ≡ after_life managed.now specs.now (failing_with sends.now between) (between_in between) (content.life_of life)) }
+    ensures ok { IfOk result
+        (λ _. (O.faults out.old ≤ O.faults out.new)
+        × WritesLines (O.written out.old) (O.written out.new)
+        (life_over managed.now specs.now sends.now between (content.life_of life))) }
+    ensures left { IfOk result
+        (λ next. between_in next
+        ≡ after_life managed.now specs.now (failing_with sends.now between) (between_in between)
+        (content.life_of life)) }
     ensures failing { IfOk result (λ next. failing_with sends.now next ≡ failing_with sends.now between) }
     ensures childless { IfOk result (λ next. next.hooks.running ≡ false) }
-    ensures front { IfErr result (λ _. WritesFront (O.written out.old) (O.written out.new) [] (life_over managed.now specs.now sends.now between (content.life_of life))) }
-    ensures cause { IfErr result (λ status. HasStatusCause status 0 0 (O.faults out.old) (O.faults out.new) × StopsWriting status) }
+    ensures front { IfErr result
+        (λ _. WritesFront (O.written out.old) (O.written out.new) []
+        (life_over managed.now specs.now sends.now between (content.life_of life))) }
+    ensures cause { IfErr result
+        (λ status. HasStatusCause status 0 0 (O.faults out.old) (O.faults out.new) × StopsWriting status) }
     ensures steady { O.never_fails out.old ≡ true → O.faults out.new ≡ O.faults out.old }
     ensures stays { O.never_fails out.new ≡ O.never_fails out.old }
 {
@@ -65,9 +74,15 @@ pub fn replay_lives<O: Sink>(
 ) -> Result<(), Status>
     requires managed { AreManaged managed.now }
     requires fits { FitsScript (content.script_of script) }
-    ensures ok { IfOk result (λ _. (O.faults out.old ≤ O.faults out.new) × WritesLines (O.written out.old) (O.written out.new) (lives_of_script managed.now (content.script_of script))) }
-    ensures front { IfErr result (λ _. WritesFront (O.written out.old) (O.written out.new) [] (lives_of_script managed.now (content.script_of script))) }
-    ensures cause { IfErr result (λ status. HasStatusCause status 0 0 (O.faults out.old) (O.faults out.new) × StopsWriting status) }
+    ensures ok { IfOk result
+        (λ _. (O.faults out.old ≤ O.faults out.new)
+        × WritesLines (O.written out.old) (O.written out.new)
+        (lives_of_script managed.now (content.script_of script))) }
+    ensures front { IfErr result
+        (λ _. WritesFront (O.written out.old) (O.written out.new) []
+        (lives_of_script managed.now (content.script_of script))) }
+    ensures cause { IfErr result
+        (λ status. HasStatusCause status 0 0 (O.faults out.old) (O.faults out.new) × StopsWriting status) }
     ensures steady { O.never_fails out.old ≡ true → O.faults out.new ≡ O.faults out.old }
     ensures stays { O.never_fails out.new ≡ O.never_fails out.old }
 {

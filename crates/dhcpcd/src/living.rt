@@ -47,9 +47,12 @@ fn live_on<O: Sink, W: Outside>(
         (asked ask.entry.text.now (configuration ask.entry.conf.now) ask.entry.specs.now turns)
         (around (O.written out.old) (O.written out.new) (W.seen live.old) (W.seen live.new))) }
     ensures not_done { result ≢ Err Status.Done }
-    ensures later { IfOk result (λ _. (O.faults out.old ≤ O.faults out.new) × ((W.seen live.old).waiting.faults ≤ (W.seen live.new).waiting.faults)) }
+    ensures later { IfOk result
+        (λ _. (O.faults out.old ≤ O.faults out.new)
+        × ((W.seen live.old).waiting.faults ≤ (W.seen live.new).waiting.faults)) }
     ensures cause { IfErr result (λ status. HasStatusCause status 0 0 (O.faults out.old) (O.faults out.new)) }
-    ensures link { IfErr result (λ status. HasLinkCause status (W.seen live.old).waiting.faults (W.seen live.new).waiting.faults) }
+    ensures link { IfErr result
+        (λ status. HasLinkCause status (W.seen live.old).waiting.faults (W.seen live.new).waiting.faults) }
     ensures foretold { (W.seen live.old).waiting.failing ≡ Some [] → result ≢ Err Status.LinkFault }
     ensures steady { O.never_fails out.old ≡ true → O.faults out.new ≡ O.faults out.old }
 {
@@ -86,13 +89,21 @@ fn live_input<I: Source, O: Sink, W: Outside>(
     ensures ok { IfOk result (λ _. IsLived Status.Done specs.now turns (I.left input.old)
         (around (O.written out.old) (O.written out.new) (W.seen live.old) (W.seen live.new))
         × (I.faults input.old ≤ I.faults input.new)) }
-    ensures err { IfErr result (λ status. IsLiveAnswer status specs.now turns (I.left input.old) (around (O.written out.old) (O.written out.new) (W.seen live.old) (W.seen live.new))) }
-    ensures later { IfOk result (λ _. (O.faults out.old ≤ O.faults out.new) × ((W.seen live.old).waiting.faults ≤ (W.seen live.new).waiting.faults)) }
+    ensures err { IfErr result
+        (λ status. IsLiveAnswer status specs.now turns (I.left input.old)
+        (around (O.written out.old) (O.written out.new) (W.seen live.old) (W.seen live.new))) }
+    ensures later { IfOk result
+        (λ _. (O.faults out.old ≤ O.faults out.new)
+        × ((W.seen live.old).waiting.faults ≤ (W.seen live.new).waiting.faults)) }
     ensures not_done { result ≢ Err Status.Done }
-    ensures cause { IfErr result (λ status. HasStatusCause status (I.faults input.old) (I.faults input.new) (O.faults out.old) (O.faults out.new)) }
-    ensures link { IfErr result (λ status. HasLinkCause status (W.seen live.old).waiting.faults (W.seen live.new).waiting.faults) }
+    ensures cause { IfErr result
+        (λ status. HasStatusCause status (I.faults input.old) (I.faults input.new) (O.faults out.old)
+        (O.faults out.new)) }
+    ensures link { IfErr result
+        (λ status. HasLinkCause status (W.seen live.old).waiting.faults (W.seen live.new).waiting.faults) }
     ensures foretold { (W.seen live.old).waiting.failing ≡ Some [] → result ≢ Err Status.LinkFault }
-    ensures reads { ReadsWithin (input_told (I.left input.old) (I.taken input.old) (I.reads input.old)) (input_told (I.left input.new) (I.taken input.new) (I.reads input.new)) }
+    ensures reads { ReadsWithin (input_told (I.left input.old) (I.taken input.old) (I.reads input.old))
+        (input_told (I.left input.new) (I.taken input.new) (I.reads input.new)) }
     ensures input_steady { I.never_fails input.old ≡ true → I.faults input.new ≡ I.faults input.old }
     ensures out_steady { O.never_fails out.old ≡ true → O.faults out.new ≡ O.faults out.old }
 {
@@ -107,8 +118,8 @@ fn live_input<I: Source, O: Sink, W: Outside>(
     Ok(())
 }
 
-/// Reads a configuration of at most 16,777,216 bytes from the input, and lives one life with it over the devices: until nothing
-/// more comes, or five seconds after a stop, and for at most so many wakes.
+/// Reads a configuration of at most 16,777,216 bytes from the input, and lives one life with it over the devices: until
+/// nothing more comes, or five seconds after a stop, and for at most so many wakes.
 pub fn live<I: Source, O: Sink, W: Outside>(
     alloc: Global,
     specs: &[IfSpec],
@@ -119,7 +130,8 @@ pub fn live<I: Source, O: Sink, W: Outside>(
 ) -> Status
     requires child { (W.seen live.old).waiting.child ≡ false }
     requires fit { FitInterfaces specs.now }
-    ensures answer { IsLiveAnswer result specs.now turns (I.left input.old) (around (O.written out.old) (O.written out.new) (W.seen live.old) (W.seen live.new)) }
+    ensures answer { IsLiveAnswer result specs.now turns (I.left input.old)
+        (around (O.written out.old) (O.written out.new) (W.seen live.old) (W.seen live.new)) }
     ensures cause { HasStatusCause result (I.faults input.old) (I.faults input.new) (O.faults out.old) (O.faults out.new) }
     ensures link { HasLinkCause result (W.seen live.old).waiting.faults (W.seen live.new).waiting.faults }
     ensures complete { TellsConfiguration (I.left input.old)
@@ -132,7 +144,8 @@ pub fn live<I: Source, O: Sink, W: Outside>(
         → O.never_fails out.old ≡ true
         → WaitsNeverFail (W.seen live.old)
         → CompletesLife result }
-    ensures reads { ReadsWithin (input_told (I.left input.old) (I.taken input.old) (I.reads input.old)) (input_told (I.left input.new) (I.taken input.new) (I.reads input.new)) }
+    ensures reads { ReadsWithin (input_told (I.left input.old) (I.taken input.old) (I.reads input.old))
+        (input_told (I.left input.new) (I.taken input.new) (I.reads input.new)) }
 {
     match live_input(alloc, specs, input, out, live, turns) {
         Ok(()) => Status::Done,

@@ -47,7 +47,9 @@ fn made_transcript(alloc: Global, rounds: u64) -> Result<MemSink, Status>
 fn make_summary<O: Sink>(alloc: Global, rounds: u64, out: &mut O) -> Result<(), Status>
     requires some { 1 ≤ rounds }
     requires few { rounds ≤ 100 }
-    ensures ok { IfOk result (λ _. IsMade (WritesBytes (O.written out.old) (O.written out.new)) rounds × (O.faults out.old ≤ O.faults out.new)) }
+    ensures ok { IfOk result
+        (λ _. IsMade (WritesBytes (O.written out.old) (O.written out.new)) rounds
+        × (O.faults out.old ≤ O.faults out.new)) }
     ensures err { IfErr result (λ status. IsMadeAnswer status rounds (O.written out.old) (O.written out.new)) }
     ensures cause { IfErr result (λ status. HasStatusCause status 0 0 (O.faults out.old) (O.faults out.new)) }
     ensures not_done { result ≢ Err Status.Done }

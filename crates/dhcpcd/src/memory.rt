@@ -164,7 +164,8 @@ fn fuse_of(crash: Option<CrashLine>) -> Option<u64>
     crash?.calls
 }
 
-/// The devices of a life that begins over what the life before left. `sends` are the sends that fail, counted over all lives.
+/// The devices of a life that begins over what the life before left. `sends` are the sends that fail, counted over all
+/// lives.
 pub fn devices(
     alloc: Global,
     between: Between,
@@ -174,7 +175,10 @@ pub fn devices(
     ensures link { IfOk result (λ live. live.link ≡ link_of (content.life_of life) between.sent sends.now) }
     ensures host { IfOk result (λ live. live.host ≡ between.host) }
     ensures told { IfOk result (λ live. live.store.told ≡ between.store.told) }
-    ensures failing { IfOk result (λ live. live.store.failing ≡ store_fails between.store.failing.numbers (length between.store.told.calls) (content.life_of life).crash) }
+    ensures failing { IfOk result
+        (λ live. live.store.failing
+        ≡ store_fails between.store.failing.numbers (length between.store.told.calls)
+        (content.life_of life).crash) }
     ensures hooks { IfOk result (λ live. live.hooks ≡ between.hooks) }
 {
     let Between {

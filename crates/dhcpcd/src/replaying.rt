@@ -24,9 +24,15 @@ pub fn write_transcript<O: Sink>(alloc: Global, settled: Settled, out: &mut O) -
     requires managed { AreManaged settled.managed.items }
     requires fits { FitsScript (content.script_of settled.script) }
     requires manages { settled.managed.items ≡ managed_in (content.script_of settled.script) (configuration settled.conf) }
-    ensures ok { IfOk result (λ _. (O.faults out.old ≤ O.faults out.new) × WritesLines (O.written out.old) (O.written out.new) (transcript (content.script_of settled.script) (configuration settled.conf))) }
-    ensures front { IfErr result (λ _. WritesFront (O.written out.old) (O.written out.new) [] (transcript (content.script_of settled.script) (configuration settled.conf))) }
-    ensures cause { IfErr result (λ status. HasStatusCause status 0 0 (O.faults out.old) (O.faults out.new) × StopsWriting status) }
+    ensures ok { IfOk result
+        (λ _. (O.faults out.old ≤ O.faults out.new)
+        × WritesLines (O.written out.old) (O.written out.new)
+        (transcript (content.script_of settled.script) (configuration settled.conf))) }
+    ensures front { IfErr result
+        (λ _. WritesFront (O.written out.old) (O.written out.new) []
+        (transcript (content.script_of settled.script) (configuration settled.conf))) }
+    ensures cause { IfErr result
+        (λ status. HasStatusCause status 0 0 (O.faults out.old) (O.faults out.new) × StopsWriting status) }
     ensures steady { O.never_fails out.old ≡ true → O.faults out.new ≡ O.faults out.old }
     ensures stays { O.never_fails out.new ≡ O.never_fails out.old }
 {
@@ -43,11 +49,16 @@ pub fn write_transcript<O: Sink>(alloc: Global, settled: Settled, out: &mut O) -
 /// Replays the script that the input spells.
 #[tactic(auto, using(crate::proofs::Refusals::settled_fit, crate::proofs::Endings::refused_answer, crate::proofs::Endings::stopped_answer, crate::proofs::Replayed::replayed))]
 fn replay_input<I: Source, O: Sink>(alloc: Global, input: &mut I, out: &mut O) -> Result<(), Status>
-    ensures ok { IfOk result (λ _. IsReplayed (I.left input.old) (O.written out.old) (O.written out.new) × (I.faults input.old ≤ I.faults input.new) × (O.faults out.old ≤ O.faults out.new)) }
+    ensures ok { IfOk result
+        (λ _. IsReplayed (I.left input.old) (O.written out.old) (O.written out.new)
+        × (I.faults input.old ≤ I.faults input.new) × (O.faults out.old ≤ O.faults out.new)) }
     ensures err { IfErr result (λ status. IsAnswer status (I.left input.old) (O.written out.old) (O.written out.new)) }
-    ensures cause { IfErr result (λ status. HasStatusCause status (I.faults input.old) (I.faults input.new) (O.faults out.old) (O.faults out.new)) }
+    ensures cause { IfErr result
+        (λ status. HasStatusCause status (I.faults input.old) (I.faults input.new) (O.faults out.old)
+        (O.faults out.new)) }
     ensures not_done { result ≢ Err Status.Done }
-    ensures reads { ReadsWithin (input_told (I.left input.old) (I.taken input.old) (I.reads input.old)) (input_told (I.left input.new) (I.taken input.new) (I.reads input.new)) }
+    ensures reads { ReadsWithin (input_told (I.left input.old) (I.taken input.old) (I.reads input.old))
+        (input_told (I.left input.new) (I.taken input.new) (I.reads input.new)) }
     ensures input_steady { I.never_fails input.old ≡ true → I.faults input.new ≡ I.faults input.old }
     ensures out_steady { O.never_fails out.old ≡ true → O.faults out.new ≡ O.faults out.old }
 {
@@ -62,9 +73,12 @@ fn replay_input<I: Source, O: Sink>(alloc: Global, input: &mut I, out: &mut O) -
 pub fn replay<I: Source, O: Sink>(alloc: Global, input: &mut I, out: &mut O) -> Status
     ensures answer { IsAnswer result (I.left input.old) (O.written out.old) (O.written out.new) }
     ensures cause { HasStatusCause result (I.faults input.old) (I.faults input.new) (O.faults out.old) (O.faults out.new) }
-    ensures complete { TellsScript (I.left input.old) → I.faults input.new ≡ I.faults input.old → O.faults out.new ≡ O.faults out.old → Completes result }
-    ensures replays { TellsScript (I.left input.old) → I.never_fails input.old ≡ true → O.never_fails out.old ≡ true → Completes result }
-    ensures reads { ReadsWithin (input_told (I.left input.old) (I.taken input.old) (I.reads input.old)) (input_told (I.left input.new) (I.taken input.new) (I.reads input.new)) }
+    ensures complete { TellsScript (I.left input.old) → I.faults input.new ≡ I.faults input.old
+        → O.faults out.new ≡ O.faults out.old → Completes result }
+    ensures replays { TellsScript (I.left input.old) → I.never_fails input.old ≡ true → O.never_fails out.old ≡ true
+        → Completes result }
+    ensures reads { ReadsWithin (input_told (I.left input.old) (I.taken input.old) (I.reads input.old))
+        (input_told (I.left input.new) (I.taken input.new) (I.reads input.new)) }
 {
     match replay_input(alloc, input, out) {
         Ok(()) => Status::Done,

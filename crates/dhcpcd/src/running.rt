@@ -28,13 +28,14 @@ use daemon::Outside;
 use std::alloc::Global;
 use world::{NoMemory, Sink, Source};
 
-/// Does what the words after the program's name ask for. `replay` reads a script of at most 16,777,216 bytes from the input,
-/// and writes its transcript. `check` reads a configuration as long, and writes its notices and `ok`. `live` reads such a configuration
-/// and lives one life over the devices, for at most so many wakes, and writes its transcript. `make` lives a script of its own in
-/// memory, for so many rounds, and writes how many lines of each kind its transcript has; it reads nothing. `dump` reads a lease file, and
-/// writes its variables; `import` reads a capture of packets, and writes its script. `lab` reads a schedule of clients and a server,
-/// lives it in memory, and writes what they send and hold. Other words are `Usage`, or `NoMemory` where they begin with `live`, and
-/// touch nothing. Where the input can't be read, is too long or is refused, nothing is written and no device is asked; after another
+/// Does what the words after the program's name ask for. `replay` reads a script of at most 16,777,216 bytes from the
+/// input, and writes its transcript. `check` reads a configuration as long, and writes its notices and `ok`. `live`
+/// reads such a configuration and lives one life over the devices, for at most so many wakes, and writes its
+/// transcript. `make` lives a script of its own in memory, for so many rounds, and writes how many lines of each kind
+/// its transcript has; it reads nothing. `dump` reads a lease file, and writes its variables; `import` reads a capture
+/// of packets, and writes its script. `lab` reads a schedule of clients and a server, lives it in memory, and writes
+/// what they send and hold. Other words are `Usage`, or `NoMemory` where they begin with `live`, and touch nothing.
+/// Where the input can't be read, is too long or is refused, nothing is written and no device is asked; after another
 /// end a front of the output stands written. No hook's child may run yet.
 #[tactic(auto, using(crate::proofs::AskedApart::asked_apart, crate::proofs::MakeAnswers::make_beside))]
 pub fn run<I: Source, O: Sink, W: Outside>(
@@ -46,23 +47,30 @@ pub fn run<I: Source, O: Sink, W: Outside>(
     turns: u64,
 ) -> Status
     requires child { (W.seen devices.old).waiting.child ≡ false }
-    ensures answer { AskReplay (map string_bytes words.now) → IsAnswer result (I.left input.old) (O.written out.old) (O.written out.new) }
-    ensures check { AskCheck (map string_bytes words.now) → IsCheckAnswer result (I.left input.old) (O.written out.old) (O.written out.new) }
+    ensures answer { AskReplay (map string_bytes words.now)
+        → IsAnswer result (I.left input.old) (O.written out.old) (O.written out.new) }
+    ensures check { AskCheck (map string_bytes words.now)
+        → IsCheckAnswer result (I.left input.old) (O.written out.old) (O.written out.new) }
     ensures live { AskLive (map string_bytes words.now)
         → IsAnsweredLive (map string_bytes words.now) result turns (I.left input.old)
         (around (O.written out.old) (O.written out.new) (W.seen devices.old) (W.seen devices.new)) }
-    ensures made { (rounds : ℕ) → AsksMake (map string_bytes words.now) rounds → IsMadeAnswer result rounds (O.written out.old) (O.written out.new) }
-    ensures dump { AskDump (map string_bytes words.now) → IsDumpAnswer result (I.left input.old) (O.written out.old) (O.written out.new) }
+    ensures made { (rounds : ℕ) → AsksMake (map string_bytes words.now) rounds
+        → IsMadeAnswer result rounds (O.written out.old) (O.written out.new) }
+    ensures dump { AskDump (map string_bytes words.now)
+        → IsDumpAnswer result (I.left input.old) (O.written out.old) (O.written out.new) }
     ensures imports { (name : Name) (mac : Mac) → AsksImport (map string_bytes words.now) name mac
         → IsImportAnswer (spec_of name mac) result (I.left input.old) (O.written out.old) (O.written out.new) }
-    ensures lab { AskLab (map string_bytes words.now) → IsLabAnswer result (I.left input.old) (O.written out.old) (O.written out.new) }
+    ensures lab { AskLab (map string_bytes words.now)
+        → IsLabAnswer result (I.left input.old) (O.written out.old) (O.written out.new) }
     ensures lab_apart { AskLab (map string_bytes words.now)
         → result ≡ Status.Done
         → IsHeldApart (I.left input.old) (O.written out.old) (O.written out.new) }
     ensures usage { (AskWork (map string_bytes words.now) → ⊥) → IsUsage (map string_bytes words.now) result }
     ensures formless { result ≡ Status.Usage → AskWork (map string_bytes words.now) → ⊥ }
-    ensures unread { (AskWork (map string_bytes words.now) → ⊥) → (I.reads input.new ≡ I.reads input.old) × (I.left input.new ≡ I.left input.old) }
-    ensures make_unread { AskMake (map string_bytes words.now) → (I.reads input.new ≡ I.reads input.old) × (I.left input.new ≡ I.left input.old) }
+    ensures unread { (AskWork (map string_bytes words.now) → ⊥)
+        → (I.reads input.new ≡ I.reads input.old) × (I.left input.new ≡ I.left input.old) }
+    ensures make_unread { AskMake (map string_bytes words.now)
+        → (I.reads input.new ≡ I.reads input.old) × (I.left input.new ≡ I.left input.old) }
     ensures unwritten { (AskWork (map string_bytes words.now) → ⊥) → O.written out.new ≡ O.written out.old }
     ensures unasked { (AskLive (map string_bytes words.now) → ⊥) → W.seen devices.new ≡ W.seen devices.old }
     ensures cause { HasStatusCause result (I.faults input.old) (I.faults input.new) (O.faults out.old) (O.faults out.new) }
@@ -70,23 +78,28 @@ pub fn run<I: Source, O: Sink, W: Outside>(
     ensures complete { AskGoodReplay (map string_bytes words.now) (I.left input.old)
         → StreamsHeld (I.faults input.old) (I.faults input.new) (O.faults out.old) (O.faults out.new)
         → Completes result }
-    ensures replays { AskGoodReplay (map string_bytes words.now) (I.left input.old) → StreamsNeverFail (I.never_fails input.old) (O.never_fails out.old) → Completes result }
+    ensures replays { AskGoodReplay (map string_bytes words.now) (I.left input.old)
+        → StreamsNeverFail (I.never_fails input.old) (O.never_fails out.old) → Completes result }
     ensures check_complete { AskGoodCheck (map string_bytes words.now) (I.left input.old)
         → StreamsHeld (I.faults input.old) (I.faults input.new) (O.faults out.old) (O.faults out.new)
         → Completes result }
-    ensures checks { AskGoodCheck (map string_bytes words.now) (I.left input.old) → StreamsNeverFail (I.never_fails input.old) (O.never_fails out.old) → Completes result }
+    ensures checks { AskGoodCheck (map string_bytes words.now) (I.left input.old)
+        → StreamsNeverFail (I.never_fails input.old) (O.never_fails out.old) → Completes result }
     ensures dump_complete { AskGoodDump (map string_bytes words.now) (I.left input.old)
         → StreamsHeld (I.faults input.old) (I.faults input.new) (O.faults out.old) (O.faults out.new)
         → Completes result }
-    ensures dumps { AskGoodDump (map string_bytes words.now) (I.left input.old) → StreamsNeverFail (I.never_fails input.old) (O.never_fails out.old) → Completes result }
+    ensures dumps { AskGoodDump (map string_bytes words.now) (I.left input.old)
+        → StreamsNeverFail (I.never_fails input.old) (O.never_fails out.old) → Completes result }
     ensures import_complete { AskGoodImport (map string_bytes words.now) (I.left input.old)
         → StreamsHeld (I.faults input.old) (I.faults input.new) (O.faults out.old) (O.faults out.new)
         → Completes result }
-    ensures imports_good { AskGoodImport (map string_bytes words.now) (I.left input.old) → StreamsNeverFail (I.never_fails input.old) (O.never_fails out.old) → Completes result }
+    ensures imports_good { AskGoodImport (map string_bytes words.now) (I.left input.old)
+        → StreamsNeverFail (I.never_fails input.old) (O.never_fails out.old) → Completes result }
     ensures lab_complete { AskGoodLab (map string_bytes words.now) (I.left input.old)
         → StreamsHeld (I.faults input.old) (I.faults input.new) (O.faults out.old) (O.faults out.new)
         → Completes result }
-    ensures labs { AskGoodLab (map string_bytes words.now) (I.left input.old) → StreamsNeverFail (I.never_fails input.old) (O.never_fails out.old) → Completes result }
+    ensures labs { AskGoodLab (map string_bytes words.now) (I.left input.old)
+        → StreamsNeverFail (I.never_fails input.old) (O.never_fails out.old) → Completes result }
     ensures live_complete { AskGoodLive (map string_bytes words.now) (I.left input.old)
         → StreamsHeld (I.faults input.old) (I.faults input.new) (O.faults out.old) (O.faults out.new)
         → WaitsHeld (W.seen devices.old) (W.seen devices.new)

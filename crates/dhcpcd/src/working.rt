@@ -29,11 +29,17 @@ fn give<K: TextWork, I: Source, O: Sink>(
     input: &mut I,
     out: &mut O,
 ) -> Result<(), Status>
-    ensures ok { IfOk result (λ _. IsDone (K.work work.now) (I.left input.old) (O.written out.old) (O.written out.new) × (I.faults input.old ≤ I.faults input.new) × (O.faults out.old ≤ O.faults out.new)) }
-    ensures err { IfErr result (λ status. IsWorked (K.work work.now) status (I.left input.old) (O.written out.old) (O.written out.new)) }
-    ensures cause { IfErr result (λ status. HasStatusCause status (I.faults input.old) (I.faults input.new) (O.faults out.old) (O.faults out.new)) }
+    ensures ok { IfOk result
+        (λ _. IsDone (K.work work.now) (I.left input.old) (O.written out.old) (O.written out.new)
+        × (I.faults input.old ≤ I.faults input.new) × (O.faults out.old ≤ O.faults out.new)) }
+    ensures err { IfErr result
+        (λ status. IsWorked (K.work work.now) status (I.left input.old) (O.written out.old) (O.written out.new)) }
+    ensures cause { IfErr result
+        (λ status. HasStatusCause status (I.faults input.old) (I.faults input.new) (O.faults out.old)
+        (O.faults out.new)) }
     ensures not_done { result ≢ Err Status.Done }
-    ensures reads { ReadsWithin (input_told (I.left input.old) (I.taken input.old) (I.reads input.old)) (input_told (I.left input.new) (I.taken input.new) (I.reads input.new)) }
+    ensures reads { ReadsWithin (input_told (I.left input.old) (I.taken input.old) (I.reads input.old))
+        (input_told (I.left input.new) (I.taken input.new) (I.reads input.new)) }
     ensures input_steady { I.never_fails input.old ≡ true → I.faults input.new ≡ I.faults input.old }
     ensures out_steady { O.never_fails out.old ≡ true → O.faults out.new ≡ O.faults out.old }
 {
@@ -54,9 +60,12 @@ pub fn perform<K: TextWork, I: Source, O: Sink>(
     requires decided { IsDecided (K.work work.now) }
     ensures answer { IsWorked (K.work work.now) result (I.left input.old) (O.written out.old) (O.written out.new) }
     ensures cause { HasStatusCause result (I.faults input.old) (I.faults input.new) (O.faults out.old) (O.faults out.new) }
-    ensures complete { Serves (K.work work.now) (I.left input.old) → I.faults input.new ≡ I.faults input.old → O.faults out.new ≡ O.faults out.old → Completes result }
-    ensures serves { Serves (K.work work.now) (I.left input.old) → I.never_fails input.old ≡ true → O.never_fails out.old ≡ true → Completes result }
-    ensures reads { ReadsWithin (input_told (I.left input.old) (I.taken input.old) (I.reads input.old)) (input_told (I.left input.new) (I.taken input.new) (I.reads input.new)) }
+    ensures complete { Serves (K.work work.now) (I.left input.old) → I.faults input.new ≡ I.faults input.old
+        → O.faults out.new ≡ O.faults out.old → Completes result }
+    ensures serves { Serves (K.work work.now) (I.left input.old) → I.never_fails input.old ≡ true
+        → O.never_fails out.old ≡ true → Completes result }
+    ensures reads { ReadsWithin (input_told (I.left input.old) (I.taken input.old) (I.reads input.old))
+        (input_told (I.left input.new) (I.taken input.new) (I.reads input.new)) }
 {
     match give(alloc, work, input, out) {
         Ok(()) => Status::Done,

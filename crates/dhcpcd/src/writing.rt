@@ -20,9 +20,12 @@ use world::{DeviceAnswer, Sink};
 
 /// Writes a text in one call.
 pub fn write_text<O: Sink>(out: &mut O, text: &[u8]) -> Result<(), Status>
-    ensures ok { IfOk result (λ _. (O.faults out.old ≤ O.faults out.new) × WritesBytes (O.written out.old) (O.written out.new) text.now) }
+    ensures ok { IfOk result
+        (λ _. (O.faults out.old ≤ O.faults out.new)
+        × WritesBytes (O.written out.old) (O.written out.new) text.now) }
     ensures some { IfErr result (λ _. WritesSome (O.written out.old) (O.written out.new) text.now) }
-    ensures cause { IfErr result (λ status. HasStatusCause status 0 0 (O.faults out.old) (O.faults out.new) × StopsWriting status) }
+    ensures cause { IfErr result
+        (λ status. HasStatusCause status 0 0 (O.faults out.old) (O.faults out.new) × StopsWriting status) }
     ensures steady { O.never_fails out.old ≡ true → O.faults out.new ≡ O.faults out.old }
     ensures stays { O.never_fails out.new ≡ O.never_fails out.old }
 {
@@ -41,9 +44,15 @@ pub fn write_head<O: Sink>(
     notices: &[Notice],
     out: &mut O,
 ) -> Result<(), Status>
-    ensures ok { IfOk result (λ _. (O.faults out.old ≤ O.faults out.new) × WritesLines (O.written out.old) (O.written out.new) (head_lines (content.script_of script.now) (map notice_content notices.now))) }
-    ensures front { IfErr result (λ _. WritesFront (O.written out.old) (O.written out.new) [] (head_lines (content.script_of script.now) (map notice_content notices.now))) }
-    ensures cause { IfErr result (λ status. HasStatusCause status 0 0 (O.faults out.old) (O.faults out.new) × StopsWriting status) }
+    ensures ok { IfOk result
+        (λ _. (O.faults out.old ≤ O.faults out.new)
+        × WritesLines (O.written out.old) (O.written out.new)
+        (head_lines (content.script_of script.now) (map notice_content notices.now))) }
+    ensures front { IfErr result
+        (λ _. WritesFront (O.written out.old) (O.written out.new) []
+        (head_lines (content.script_of script.now) (map notice_content notices.now))) }
+    ensures cause { IfErr result
+        (λ status. HasStatusCause status 0 0 (O.faults out.old) (O.faults out.new) × StopsWriting status) }
     ensures steady { O.never_fails out.old ≡ true → O.faults out.new ≡ O.faults out.old }
     ensures stays { O.never_fails out.new ≡ O.never_fails out.old }
 {
@@ -56,9 +65,12 @@ pub fn write_head<O: Sink>(
 /// Writes the line that begins a life, by its number from 1.
 #[tactic(auto, using(crate::proofs::WholeLife::head_written, crate::proofs::WholeLife::front_of_head, daemon::proofs::CutOffs::front_none))]
 pub fn begin_life<O: Sink>(alloc: Global, number: u64, out: &mut O) -> Result<(), Status>
-    ensures ok { IfOk result (λ _. (O.faults out.old ≤ O.faults out.new) × WritesLines (O.written out.old) (O.written out.new) (lines.Life number ∷ [])) }
+    ensures ok { IfOk result
+        (λ _. (O.faults out.old ≤ O.faults out.new)
+        × WritesLines (O.written out.old) (O.written out.new) (lines.Life number ∷ [])) }
     ensures front { IfErr result (λ _. WritesFront (O.written out.old) (O.written out.new) [] (lines.Life number ∷ [])) }
-    ensures cause { IfErr result (λ status. HasStatusCause status 0 0 (O.faults out.old) (O.faults out.new) × StopsWriting status) }
+    ensures cause { IfErr result
+        (λ status. HasStatusCause status 0 0 (O.faults out.old) (O.faults out.new) × StopsWriting status) }
     ensures steady { O.never_fails out.old ≡ true → O.faults out.new ≡ O.faults out.old }
     ensures stays { O.never_fails out.new ≡ O.never_fails out.old }
 {
@@ -71,10 +83,14 @@ pub fn begin_life<O: Sink>(alloc: Global, number: u64, out: &mut O) -> Result<()
 /// Writes the lines before the one life of `live`, in one call.
 #[tactic(auto, using(crate::proofs::WholeLife::head_written, crate::proofs::WholeLife::front_of_head, daemon::proofs::CutOffs::front_none))]
 pub fn write_live_head<O: Sink>(alloc: Global, start: &Start<'_>, out: &mut O) -> Result<(), Status>
-    ensures ok { IfOk result (λ _. (O.faults out.old ≤ O.faults out.new) × WritesLines (O.written out.old) (O.written out.new)
+    ensures ok { IfOk result
+        (λ _. (O.faults out.old ≤ O.faults out.new) × WritesLines (O.written out.old) (O.written out.new)
         (live_head start.now.text.now (map notice_content start.now.notices.now) start.now.specs.now)) }
-    ensures front { IfErr result (λ _. WritesFront (O.written out.old) (O.written out.new) [] (live_head start.now.text.now (map notice_content start.now.notices.now) start.now.specs.now)) }
-    ensures cause { IfErr result (λ status. HasStatusCause status 0 0 (O.faults out.old) (O.faults out.new) × StopsWriting status) }
+    ensures front { IfErr result
+        (λ _. WritesFront (O.written out.old) (O.written out.new) []
+        (live_head start.now.text.now (map notice_content start.now.notices.now) start.now.specs.now)) }
+    ensures cause { IfErr result
+        (λ status. HasStatusCause status 0 0 (O.faults out.old) (O.faults out.new) × StopsWriting status) }
     ensures steady { O.never_fails out.old ≡ true → O.faults out.new ≡ O.faults out.old }
     ensures stays { O.never_fails out.new ≡ O.never_fails out.old }
 {

@@ -1,5 +1,5 @@
-//! The program: it makes the standard streams and the devices, says what it is where that alone is asked, and ends with the status of
-//! the top call.
+//! The program: it makes the standard streams and the devices, says what it is where that alone is asked, and ends with
+//! the status of the top call.
 #![tactic(auto)]
 
 mod devices;

@@ -33,7 +33,8 @@ labels_joined label [] = refl
 labels_joined label (byte ∷ rest) =
     elim (cases_bool (eqb byte 46)) [
       | inl e ↦ rw e (
-          ap (λ (more : List ℕ). label ++ more) (dot_first (labels_after [] rest) (some_labels [] rest) ∙ ap (λ (more : List ℕ). 46 ∷ more) (labels_joined [] rest))
+          ap (λ (more : List ℕ). label ++ more)
+          (dot_first (labels_after [] rest) (some_labels [] rest) ∙ ap (λ (more : List ℕ). 46 ∷ more) (labels_joined [] rest))
           ∙ ap (λ (b : ℕ). label ++ b ∷ rest) (sym (eqb-true byte 46 e)))
       | inr e ↦ rw e (labels_joined (label ++ byte ∷ []) rest ∙ append_assoc label (byte ∷ []) rest)
     ]
@@ -93,9 +94,11 @@ labels_tested label (byte ∷ rest) bytes short =
     elim (cases_bool (eqb byte 46)) [
       | inl dot ↦ rw (dot, good_label label bytes short) (ap (λ (more : Bool). ltb 0 (length label) && more) (labels_tested [] rest refl (omega arith)))
       | inr other ↦ rw other (elim (cases_bool (is_name_byte byte)) [
-        | inr bad ↦ rw (bad, bad_stays (label ++ byte ∷ []) rest (inl (list_all-append is_name_byte label (byte ∷ []) ∙ rw (bytes, bad) refl))) (no_mid (ltb (length label) 63) (labels_fit (length label + 1) rest))
+        | inr bad ↦ rw (bad, bad_stays (label ++ byte ∷ []) rest (inl (list_all-append is_name_byte label (byte ∷ []) ∙ rw (bytes, bad) refl)))
+            (no_mid (ltb (length label) 63) (labels_fit (length label + 1) rest))
         | inl good ↦ elim (cases_lt (length label) 63) [
-          | inr long ↦ rw (good, is_not_lt (length label) 63 long, bad_stays (label ++ byte ∷ []) rest (inr (omega (arith, length-append label (byte ∷ []))))) refl
+          | inr long ↦ rw
+              (good, is_not_lt (length label) 63 long, bad_stays (label ++ byte ∷ []) rest (inr (omega (arith, length-append label (byte ∷ []))))) refl
           | inl room ↦
               let one : length (label ++ byte ∷ []) ≡ length label + 1 = length-append label (byte ∷ []) in
               let fit : list_all is_name_byte (label ++ byte ∷ []) ≡ true = list_all-append is_name_byte label (byte ∷ []) ∙ rw (bytes, good) refl in
@@ -108,7 +111,12 @@ labels_tested label (byte ∷ rest) bytes short =
 
 pub name_tested : (text : List ℕ) → length text ≤ 253 → labels_fit 0 text ≡ is_name text
 name_tested text short =
-    rw (le-leb 1 (length (labels_of text)) (some_labels [] text), labels_joined [] text, le-leb (length text) 253 short, labels_tested [] text refl (omega arith))
+    rw (
+      le-leb 1 (length (labels_of text)) (some_labels [] text),
+      labels_joined [] text,
+      le-leb (length text) 253 short,
+      labels_tested [] text refl (omega arith),
+    )
     (chosen (list_all is_label (labels_of text)))
   where
     chosen : (b : Bool) → b ≡ is_some (cond (true && b && true) (Some text) None)
@@ -126,7 +134,9 @@ name_long text long =
 
 -- a name is its labels' name
 pub name_kept : (text : List ℕ) → is_name text ≡ true → name_of (labels_of text) ≡ Some text
-name_kept text good = rw (labels_joined [] text) (chosen (leb 1 (length (labels_of text)) && list_all is_label (labels_of text) && leb (length text) 253) (rw (labels_joined [] text) at good))
+name_kept text good =
+    rw (labels_joined [] text)
+    (chosen (leb 1 (length (labels_of text)) && list_all is_label (labels_of text) && leb (length text) 253) (rw (labels_joined [] text) at good))
   where
     chosen : (b : Bool) → is_some (cond b (Some text) None) ≡ true → cond b (Some text) None ≡ Some text
     chosen true e = refl

@@ -48,7 +48,8 @@ room_of value start at piece e = subst (λ (p : Piece). HasRoom value start at p
 
 abbrev pub SpelledBy : List ℕ → ℕ → ℕ → Piece → List (List ℕ) → ℕ → Type 0
 SpelledBy value start at End labels next = (labels ≡ []) × (next ≡ at + 1)
-SpelledBy value start at (Label n) labels next = (more : List (List ℕ)) × Spells value start (at + 1 + n) more next × (labels ≡ take n (drop (at + 1) value) ∷ more)
+SpelledBy value start at (Label n) labels next =
+    (more : List (List ℕ)) × Spells value start (at + 1 + n) more next × (labels ≡ take n (drop (at + 1) value) ∷ more)
 SpelledBy value start at (Pointer target) labels next = (after : ℕ) × Spells value target target labels after × (next ≡ at + 2)
 SpelledBy value start at Bad labels next = ⊥
 

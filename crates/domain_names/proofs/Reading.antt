@@ -76,8 +76,14 @@ module _ (value : List ℕ) (from start at : ℕ) (text : List ℕ) (after : Opt
     found = λ labels next s. rw (append_assoc r.done (label ∷ []) labels, label_is) (r.found (take n (drop (at + 1) value) ∷ labels) next (goes_on e s));
     only = λ all m s.
         let before = r.only all m s in
-        let by = spelled_by (Label n) e before.2 in
-        (by.0, before.1, by.1, before.3 ∙ ap (λ (ls : List (List ℕ)). r.done ++ ls) (by.2 ∙ ap (λ (l : List ℕ). l ∷ by.0) (sym label_is)) ∙ sym (append_assoc r.done (label ∷ []) by.0), before.4);
+        let by = spelled_by (Label n) e before.2 in (
+          by.0,
+          before.1,
+          by.1,
+          before.3 ∙ ap (λ (ls : List (List ℕ)). r.done ++ ls) (by.2 ∙ ap (λ (l : List ℕ). l ∷ by.0) (sym label_is))
+              ∙ sym (append_assoc r.done (label ∷ []) by.0),
+          before.4,
+        );
   }
 
   pub read_pointer : (target : ℕ) → piece_of value start at ≡ Pointer target → Reading value from target target text (Some (unwrap_or after (at + 2)))
@@ -106,7 +112,15 @@ module _ (value : List ℕ) (from start at : ℕ) (text : List ℕ) (after : Opt
       record {
         labels = r.done ++ [];
         spelled = r.found [] (at + 1) (ends e);
-        named = rw (append-nil r.done, le-leb 1 (length r.done) (some_label r.done (omega arith)), r.good, le-leb (length (dotted r.done)) 253 (omega (arith, r.short)), ← r.spelled) refl;
+        named =
+            rw (
+              append-nil r.done,
+              le-leb 1 (length r.done) (some_label r.done (omega arith)),
+              r.good,
+              le-leb (length (dotted r.done)) 253 (omega (arith, r.short)),
+              ← r.spelled,
+            )
+            refl;
       }
 
   pub refuses_label : (n : ℕ) → piece_of value start at ≡ Label n → is_label (take n (drop (at + 1) value)) ≡ false → NoNameAt value from
@@ -116,7 +130,8 @@ module _ (value : List ℕ) (from start at : ℕ) (text : List ℕ) (after : Opt
       let parts = name_parts (r.done ++ there.0) all there.3 in
       let labels : (list_all is_label r.done && list_all is_label there.0) ≡ true = sym (list_all-append is_label r.done there.0) ∙ parts.1 in
       let second = (both (list_all is_label r.done) (list_all is_label there.0) labels).1 in
-      let first : (is_label (take n (drop (at + 1) value)) && list_all is_label by.0) ≡ true = ap (λ (ls : List (List ℕ)). list_all is_label ls) (sym by.2) ∙ second in
+      let first : (is_label (take n (drop (at + 1) value)) && list_all is_label by.0) ≡ true =
+      ap (λ (ls : List (List ℕ)). list_all is_label ls) (sym by.2) ∙ second in
       let good = (both (is_label (take n (drop (at + 1) value))) (list_all is_label by.0) first).0 in
       absurd cc
 
@@ -126,8 +141,10 @@ module _ (value : List ℕ) (from start at : ℕ) (text : List ℕ) (after : Opt
       let there = name_there all m is in
       let by = spelled_by (Label n) e there.2 in
       let parts = name_parts (r.done ++ there.0) all there.3 in
-      let split : r.done ++ there.0 ≡ (r.done ++ label ∷ []) ++ by.0 = ap (λ (ls : List (List ℕ)). r.done ++ ls) by.2 ∙ sym (append_assoc r.done (label ∷ []) by.0) in
+      let split : r.done ++ there.0 ≡ (r.done ++ label ∷ []) ++ by.0 =
+      ap (λ (ls : List (List ℕ)). r.done ++ ls) by.2 ∙ sym (append_assoc r.done (label ∷ []) by.0) in
       let grown = dotted_grows (r.done ++ label ∷ []) by.0 in
-      let text_is : with_label text label ≡ dotted (r.done ++ label ∷ []) = ap (λ (t : List ℕ). with_label t label) r.spelled ∙ dotted_more r.done label r.good in
+      let text_is : with_label text label ≡ dotted (r.done ++ label ∷ []) =
+      ap (λ (t : List ℕ). with_label t label) r.spelled ∙ dotted_more r.done label r.good in
       let short : length (dotted ((r.done ++ label ∷ []) ++ by.0)) ≤ 253 = rw split at parts.2 in
       absurd (omega (arith, long, ap (λ (t : List ℕ). length t) text_is, grown, short))

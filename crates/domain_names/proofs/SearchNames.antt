@@ -89,7 +89,8 @@ name_sound value at x e =
 name_whole : (value : List ℕ) (at : ℕ) (text : List ℕ) (next : ℕ) → IsNameAt value at text next → name_in value at ≡ Some (text, next)
 unfolding name_in
 name_whole value at text next is =
-    let within : labels_within ((at + 1) * (length value + 1)) value at at ≡ Some (is.labels, next) = labels_whole is.spelled ((at + 1) * (length value + 1)) (omega arith) in
+    let within : labels_within ((at + 1) * (length value + 1)) value at at ≡ Some (is.labels, next) =
+    labels_whole is.spelled ((at + 1) * (length value + 1)) (omega arith) in
     rw (within, is.named) refl
 
 names_whole : (more : ℕ) (value : List ℕ) (at : ℕ) (texts : List (List ℕ)) → length value - at ≤ more → AreNames value at texts
@@ -137,8 +138,10 @@ search_sound : (value : List ℕ) (texts : List (List ℕ)) → search_in value 
 search_sound value texts e =
     elim (cases_bool (ltb 0 (length value))) [
       | inl filled ↦
-          let are = names_sound (length value) value 0 texts (rw filled at e) in
-          (λ nothing. let at_end : 0 ≡ length value = subst (λ (t : List (List ℕ)). AreNames value 0 t) nothing are in absurd (grind (arith, at_end, filled)), are)
+          let are = names_sound (length value) value 0 texts (rw filled at e) in (
+            λ nothing. let at_end : 0 ≡ length value = subst (λ (t : List (List ℕ)). AreNames value 0 t) nothing are in absurd (grind (arith, at_end, filled)),
+            are,
+          )
       | inr empty ↦ let none : None ≡ some texts = rw empty at e in absurd cc
     ]
 

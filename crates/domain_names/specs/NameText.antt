@@ -5,7 +5,8 @@ use Rattle.domain_names.specs.DomainName.{name_of}
 -- the labels of a text whose first label begins with these bytes
 abbrev pub labels_after : List ℕ → List ℕ → List (List ℕ)
 labels_after label [] = label ∷ []
-labels_after label (byte ∷ rest) = if byte == 46 then label ∷ labels_after [] rest else labels_after (label ++ byte ∷ []) rest
+labels_after label (byte ∷ rest) =
+    if byte == 46 then label ∷ labels_after [] rest else labels_after (label ++ byte ∷ []) rest
 
 -- the parts of a text between its dots
 abbrev pub labels_of : List ℕ → List (List ℕ)

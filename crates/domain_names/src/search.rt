@@ -13,7 +13,8 @@ use std::alloc::{AllocError, Global};
 
 /// The name that begins at `from` as text, and where what follows it begins.
 fn name_at(alloc: Global, value: &[u8], from: usize) -> Result<Option<(String, usize)>, AllocError>
-    ensures name { IfOk result (λ name. MatchOption name (NoNameAt value.now from) (λ x. IsNameAt value.now from (string_bytes x.0) x.1)) }
+    ensures name { IfOk result
+        (λ name. MatchOption name (NoNameAt value.now from) (λ x. IsNameAt value.now from (string_bytes x.0) x.1)) }
     ensures forward { IfOk result (λ name. IfSome name (λ x. (from < x.1) × (x.1 ≤ length value.now))) }
 {
     let Some((name, next)) = read_name(value, from) else {
@@ -25,7 +26,9 @@ fn name_at(alloc: Global, value: &[u8], from: usize) -> Result<Option<(String, u
 
 fn read_names(alloc: Global, value: &[u8]) -> Result<Option<Vec<String>>, AllocError>
     requires { 0 < length value.now }
-    ensures { IfOk result (λ names. MatchOption names (NoNames value.now) (λ v. (v.items ≢ []) × AreNames value.now 0 (map (λ name. string_bytes name) v.items))) }
+    ensures { IfOk result
+        (λ names. MatchOption names (NoNames value.now)
+        (λ v. (v.items ≢ []) × AreNames value.now 0 (map (λ name. string_bytes name) v.items))) }
 {
     let mut names = Vec::new(alloc);
     let mut at = 0;
@@ -43,9 +46,12 @@ fn read_names(alloc: Global, value: &[u8]) -> Result<Option<Vec<String>>, AllocE
 /// The names that are the value: option 119. None unless it is one compressed name or more, and nothing else.
 pub fn search_of(alloc: Global, value: &[u8]) -> Result<Option<Vec<String>>, NoMemory>
     // What the grammar says.
-    ensures names { IfOk result (λ names. MatchOption names (NoNames value.now) (λ v. (v.items ≢ []) × AreNames value.now 0 (map (λ name. string_bytes name) v.items))) }
+    ensures names { IfOk result
+        (λ names. MatchOption names (NoNames value.now)
+        (λ v. (v.items ≢ []) × AreNames value.now 0 (map (λ name. string_bytes name) v.items))) }
     // The same as a function of the value.
-    ensures gives { IfOk result (λ names. option_map (λ v. map (λ name. string_bytes name) v.items) names ≡ search_in value.now) }
+    ensures gives { IfOk result
+        (λ names. option_map (λ v. map (λ name. string_bytes name) v.items) names ≡ search_in value.now) }
 {
     if value.is_empty() {
         return Ok(None);

@@ -71,7 +71,8 @@ pub record Spelled (text bytes : List ℕ) : Type 0 where
 
 if_text : (text pairs bytes : List ℕ) → if_text_of text pairs ≡ Some bytes → (text ≡ duid_text pairs) × (duid_in pairs ≡ Some bytes)
 if_text text pairs bytes e =
-    elim (bytes_eq text (duid_text pairs)) as (λ b. bytes_eq text (duid_text pairs) ≡ b → cond b (duid_in pairs) None ≡ Some bytes → (text ≡ duid_text pairs) × (duid_in pairs ≡ Some bytes)) [
+    elim (bytes_eq text (duid_text pairs)) as
+    (λ b. bytes_eq text (duid_text pairs) ≡ b → cond b (duid_in pairs) None ≡ Some bytes → (text ≡ duid_text pairs) × (duid_in pairs ≡ Some bytes)) [
       | true ↦ λ t q. ((bytes_eq-Decides _ _).0 t, q)
       | false ↦ λ t q. let never : ⊥ = cc in absurd never
     ] refl e

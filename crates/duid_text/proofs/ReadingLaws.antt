@@ -26,7 +26,8 @@ data After (mark : ℕ) (rest bytes : List ℕ) : Type 0 where
 
 after_is : (mark : ℕ) (rest bytes : List ℕ) → after_mark mark rest ≡ Some bytes → After mark rest bytes
 after_is mark rest bytes e =
-    elim (bytes_eq (mark ∷ rest) (10 ∷ [])) as (λ b. bytes_eq (mark ∷ rest) (10 ∷ []) ≡ b → cond b (Some []) (cond (eqb mark 58) (bytes_at rest) None) ≡ Some bytes → After mark rest bytes) [
+    elim (bytes_eq (mark ∷ rest) (10 ∷ [])) as
+    (λ b. bytes_eq (mark ∷ rest) (10 ∷ []) ≡ b → cond b (Some []) (cond (eqb mark 58) (bytes_at rest) None) ≡ Some bytes → After mark rest bytes) [
       | true ↦ λ t q. Last ((bytes_eq-Decides _ _).0 t) (some_same q)
       | false ↦ λ t q. further q
     ] refl e
@@ -56,7 +57,8 @@ last_byte a b mark first rest pair small last = record {
   range = cons_bytes first [] small no_bytes;
 }
 
-further_byte : (a b mark first : ℕ) (rest others : List ℕ) → a ∷ b ∷ [] ≡ byte_hex first → first < 256 → mark ≡ 58 → ReadSo rest others → ReadSo (a ∷ b ∷ mark ∷ rest) (first ∷ others)
+further_byte : (a b mark first : ℕ) (rest others : List ℕ) → a ∷ b ∷ [] ≡ byte_hex first → first < 256 → mark ≡ 58 → ReadSo rest others
+    → ReadSo (a ∷ b ∷ mark ∷ rest) (first ∷ others)
 further_byte a b mark first rest others pair small colon more = record {
   some = λ none. cc;
   text_is = ap (λ p. p ++ mark ∷ rest) pair
@@ -66,8 +68,10 @@ further_byte a b mark first rest others pair small colon more = record {
   range = cons_bytes first others small more.range;
 }
 
-behind : (a b mark first : ℕ) (rest others : List ℕ) → a ∷ b ∷ [] ≡ byte_hex first → first < 256 → ((bytes : List ℕ) → bytes_at rest ≡ Some bytes → ReadSo rest bytes) → After mark rest others → ReadSo (a ∷ b ∷ mark ∷ rest) (first ∷ others)
-behind a b mark first rest others pair small sound (Last last none) = subst (λ os. ReadSo (a ∷ b ∷ mark ∷ rest) (first ∷ os)) none (last_byte a b mark first rest pair small last)
+behind : (a b mark first : ℕ) (rest others : List ℕ) → a ∷ b ∷ [] ≡ byte_hex first → first < 256
+    → ((bytes : List ℕ) → bytes_at rest ≡ Some bytes → ReadSo rest bytes) → After mark rest others → ReadSo (a ∷ b ∷ mark ∷ rest) (first ∷ others)
+behind a b mark first rest others pair small sound (Last last none) =
+    subst (λ os. ReadSo (a ∷ b ∷ mark ∷ rest) (first ∷ os)) none (last_byte a b mark first rest pair small last)
 behind a b mark first rest others pair small sound (Further colon more) = further_byte a b mark first rest others pair small colon (sound others more)
 
 bytes_sound : (text bytes : List ℕ) → bytes_at text ≡ Some bytes → ReadSo text bytes
@@ -111,15 +115,19 @@ spelled_none text none =
 
 -- ---- a step of the loop
 
-more_bytes : (items : List ℕ) (byte : ℕ) (o : Option (List ℕ)) → option_map (λ xs. items ++ xs) (with_byte (Some byte) o) ≡ option_map (λ xs. items ++ byte ∷ [] ++ xs) o
+more_bytes : (items : List ℕ) (byte : ℕ) (o : Option (List ℕ))
+    → option_map (λ xs. items ++ xs) (with_byte (Some byte) o) ≡ option_map (λ xs. items ++ byte ∷ [] ++ xs) o
 more_bytes items byte None = refl
 more_bytes items byte (Some xs) = ap (λ ys. Some ys) (sym (append_assoc items (byte ∷ []) xs))
 
-pub byte_more : (items : List ℕ) (whole : Option (List ℕ)) (byte : ℕ) (rest : List ℕ) → 3 ≤ length rest → hex_byte_at (slice_index rest 0 ∷ slice_index rest 1 ∷ []) ≡ Some byte → slice_index rest 2 ≡ 58 → whole ≡ option_map (λ xs. items ++ xs) (bytes_at rest) → whole ≡ option_map (λ xs. items ++ byte ∷ [] ++ xs) (bytes_at (take (length rest - 3) (drop 3 rest)))
+pub byte_more : (items : List ℕ) (whole : Option (List ℕ)) (byte : ℕ) (rest : List ℕ) → 3 ≤ length rest
+    → hex_byte_at (slice_index rest 0 ∷ slice_index rest 1 ∷ []) ≡ Some byte → slice_index rest 2 ≡ 58 → whole ≡ option_map (λ xs. items ++ xs) (bytes_at rest)
+    → whole ≡ option_map (λ xs. items ++ byte ∷ [] ++ xs) (bytes_at (take (length rest - 3) (drop 3 rest)))
 byte_more items whole byte [] long read colon e = absurd (omega arith)
 byte_more items whole byte (a ∷ []) long read colon e = absurd (omega arith)
 byte_more items whole byte (a ∷ b ∷ []) long read colon e = absurd (omega arith)
 byte_more items whole byte (a ∷ b ∷ mark ∷ rest) long read colon e =
     let left : suc (suc (suc (length rest))) - 3 ≡ length rest = omega arith in
-    let step : option_map (λ xs. items ++ xs) (bytes_at (a ∷ b ∷ mark ∷ rest)) ≡ option_map (λ xs. items ++ byte ∷ [] ++ xs) (bytes_at rest) = rw (colon, read) (more_bytes items byte (bytes_at rest)) in
+    let step : option_map (λ xs. items ++ xs) (bytes_at (a ∷ b ∷ mark ∷ rest)) ≡ option_map (λ xs. items ++ byte ∷ [] ++ xs) (bytes_at rest) =
+    rw (colon, read) (more_bytes items byte (bytes_at rest)) in
     rw (left, take-length rest) (e ∙ step)

@@ -1,4 +1,5 @@
--- What holds of the texts of DUIDs: each is read back, a text spells one at most, and the DUID of a hardware address is one.
+-- What holds of the texts of DUIDs: each is read back, a text spells one at most, and the DUID of a hardware address is
+-- one.
 use Rattle.std.specs.Prelude.{◌≡◌, ◌≤◌, ℕ, List, length, Some}
 use Rattle.net_types.specs.declared.address.Mac.{Mac}
 use Rattle.net_types.specs.AddressText.{FitsMac}

@@ -19,13 +19,15 @@ then call made None mid new before = subst (λ m. Does (call ∷ []) m new → n
 then call made (Some calls) mid new before = subst (λ m. Does (call ∷ []) m new → Does (call ∷ made) (Some calls) new) (sym before) (λ after. after)
 
 -- a device that answers as the system did
-pub answered_so : {T : Type 0} (asked : Option ErrorKind → Type 0) (unasked : Type 0) (failure : Option ErrorKind) (result : Result T DeviceAnswer) → asked failure → AnswersAs failure result → Answered asked unasked result
+pub answered_so : {T : Type 0} (asked : Option ErrorKind → Type 0) (unasked : Type 0) (failure : Option ErrorKind) (result : Result T DeviceAnswer)
+    → asked failure → AnswersAs failure result → Answered asked unasked result
 answered_so asked unasked None (Ok x) did answers = did
 answered_so asked unasked None (Err answer) did answers = absurd answers
 answered_so asked unasked (Some kind) (Ok x) did answers = absurd answers
 answered_so asked unasked (Some kind) (Err answer) did answers = rw answers (kind, did)
 
-pub ended_so : (failure : Option ErrorKind) (old mid new : Option (List ChildCall)) → Does (Killed None ∷ []) old mid → Does (Waited failure ∷ []) mid new → Leaves true old new
+pub ended_so : (failure : Option ErrorKind) (old mid new : Option (List ChildCall)) → Does (Killed None ∷ []) old mid → Does (Waited failure ∷ []) mid new
+    → Leaves true old new
 ended_so failure old mid new killed waited = inl (failure, then (Waited failure) (Killed None ∷ []) old mid new killed waited)
 
 -- what was received of the peer, or of another
@@ -33,7 +35,10 @@ pub received_so : (millis peer : ℕ) (buffer : List ℕ) (size : ℕ) (sender :
     → IfSome got (λ len. (len ≡ size) × (sender.address ≡ LOOPBACK) × (sender.port ≡ peer)) → Does (Limited millis None ∷ []) old mid
     → Does (Received (Ok (record { bytes = take size buffer; sender = sender })) ∷ []) mid new → Receives millis peer buffer old new (Ok got)
 received_so millis peer buffer size sender None old mid new is limited received =
-    inl (record { bytes = take size buffer; sender = sender }, then (Received (Ok (record { bytes = take size buffer; sender = sender }))) (Limited millis None ∷ []) old mid new limited received)
+    inl (
+      record { bytes = take size buffer; sender = sender },
+      then (Received (Ok (record { bytes = take size buffer; sender = sender }))) (Limited millis None ∷ []) old mid new limited received,
+    )
 received_so millis peer buffer size sender (Some len) old mid new is limited received = record {
   sender = sender;
   here = is.1;

@@ -21,7 +21,8 @@ pub record Writing (bytes rest : List ℕ) (old new : Option (List DiskCall)) : 
 pub writing_begins : (bytes : List ℕ) (old : Option (List DiskCall)) → Writing bytes bytes old old
 writing_begins bytes old = record { pieces = []; writes = refl; so_far = refl; asked = nothing old }
 
-pub writing_goes_on : (bytes rest left : List ℕ) (n : ℕ) (old mid new : Option (List DiskCall)) → left ≡ drop n rest → Writing bytes rest old mid → Does (Wrote rest (Ok n) ∷ []) mid new → Writing bytes left old new
+pub writing_goes_on : (bytes rest left : List ℕ) (n : ℕ) (old mid new : Option (List DiskCall)) → left ≡ drop n rest → Writing bytes rest old mid
+    → Does (Wrote rest (Ok n) ∷ []) mid new → Writing bytes left old new
 writing_goes_on bytes rest left n old mid new is h more = record {
   pieces = Wrote rest (Ok n) ∷ h.pieces;
   writes = h.writes;
@@ -44,7 +45,8 @@ all_written bytes rest old new none h = record {
   asked = h.asked;
 }
 
-pub some_written : (bytes rest : List ℕ) (answer : Result ℕ ErrorKind) (old mid new : Option (List DiskCall)) → Writing bytes rest old mid → Does (Wrote rest answer ∷ []) mid new → WritesSome old new
+pub some_written : (bytes rest : List ℕ) (answer : Result ℕ ErrorKind) (old mid new : Option (List DiskCall)) → Writing bytes rest old mid
+    → Does (Wrote rest answer ∷ []) mid new → WritesSome old new
 some_written bytes rest answer old mid new h last = record {
   pieces = Wrote rest answer ∷ h.pieces;
   writes = h.writes;
@@ -62,7 +64,8 @@ pub record Reading (old new : Option (List DiskCall)) (before after : List ℕ) 
 pub reading_begins : (old : Option (List DiskCall)) (before : List ℕ) → Reading old old before before
 reading_begins old before = record { pieces = []; pieced = refl; reads = refl; appended = sym (append-nil before); asked = nothing old }
 
-pub reading_goes_on : (old mid new : Option (List DiskCall)) (before after more bytes : List ℕ) → more ≡ after ++ bytes → Reading old mid before after → Does (Read (Ok bytes) ∷ []) mid new → Reading old new before more
+pub reading_goes_on : (old mid new : Option (List DiskCall)) (before after more bytes : List ℕ) → more ≡ after ++ bytes → Reading old mid before after
+    → Does (Read (Ok bytes) ∷ []) mid new → Reading old new before more
 reading_goes_on old mid new before after more bytes is h last = record {
   pieces = Read (Ok bytes) ∷ h.pieces;
   pieced = h.pieced;
@@ -71,7 +74,8 @@ reading_goes_on old mid new before after more bytes is h last = record {
   asked = then (Read (Ok bytes)) h.pieces old mid new h.asked last;
 }
 
-pub all_read : (n : ℕ) (buffer : List ℕ) (old mid new : Option (List DiskCall)) (before after : List ℕ) → n ≡ 0 → Reading old mid before after → Does (Read (Ok (take n buffer)) ∷ []) mid new → ReadsAll old new before after
+pub all_read : (n : ℕ) (buffer : List ℕ) (old mid new : Option (List DiskCall)) (before after : List ℕ) → n ≡ 0 → Reading old mid before after
+    → Does (Read (Ok (take n buffer)) ∷ []) mid new → ReadsAll old new before after
 all_read n buffer old mid new before after none h last = record {
   pieces = h.pieces;
   reads = h.pieced;
@@ -83,7 +87,8 @@ all_read n buffer old mid new before after none h last = record {
 pub front_kept : (old new : Option (List DiskCall)) (before after : List ℕ) → Reading old new before after → take (length before) after ≡ before
 front_kept old new before after h = rw h.appended (take-append_seam before (read_by h.pieces))
 
-pub some_read : (answer : Result (List ℕ) ErrorKind) (old mid new : Option (List DiskCall)) (before after : List ℕ) → Reading old mid before after → Does (Read answer ∷ []) mid new → ReadsSome old new
+pub some_read : (answer : Result (List ℕ) ErrorKind) (old mid new : Option (List DiskCall)) (before after : List ℕ) → Reading old mid before after
+    → Does (Read answer ∷ []) mid new → ReadsSome old new
 some_read answer old mid new before after h last = record {
   pieces = Read answer ∷ h.pieces;
   reads = h.reads;
@@ -117,25 +122,31 @@ named_one (Renamed from to failure) entries = sym (append-nil (named_by entries)
 named_one (Removed path failure) entries = sym (append-nil (named_by entries))
 named_one (Listed path failure) entries = sym (append-nil (named_by entries))
 
-pub listing_goes_on : (old mid new : Option (List DiskCall)) (before after more : List (List ℕ)) → Listing old mid before after → ListsEntry mid new after more → Listing old new before more
+pub listing_goes_on : (old mid new : Option (List DiskCall)) (before after more : List (List ℕ)) → Listing old mid before after → ListsEntry mid new after more
+    → Listing old new before more
 listing_goes_on old mid new before after more h one = record {
   entries = one.entry ∷ h.entries;
   names = rw one.is_one h.names;
   found =
       one.found ∙ ap (λ xs. xs ++ filter is_aside_name (named_by (one.entry ∷ []))) h.found
       ∙ append_assoc before (filter is_aside_name (named_by h.entries)) (filter is_aside_name (named_by (one.entry ∷ [])))
-      ∙ ap (λ xs. before ++ xs) (sym (filter-append is_aside_name (named_by h.entries) (named_by (one.entry ∷ []))) ∙ ap (filter is_aside_name) (sym (named_one one.entry h.entries)));
+      ∙ ap (λ xs. before ++ xs)
+      (sym (filter-append is_aside_name (named_by h.entries) (named_by (one.entry ∷ [])))
+      ∙ ap (filter is_aside_name) (sym (named_one one.entry h.entries)));
   asked = then one.entry h.entries old mid new h.asked one.asked;
 }
 
 -- a name that was given, and one that is no text
-pub one_named : (old new : Option (List DiskCall)) (before after : List (List ℕ)) (name : List ℕ) → after ≡ before ++ filter is_aside_name (name ∷ []) → Does (Named (Ok (Some name)) ∷ []) old new → ListsEntry old new before after
+pub one_named : (old new : Option (List DiskCall)) (before after : List (List ℕ)) (name : List ℕ) → after ≡ before ++ filter is_aside_name (name ∷ [])
+    → Does (Named (Ok (Some name)) ∷ []) old new → ListsEntry old new before after
 one_named old new before after name is asked = record { entry = Named (Ok (Some name)); is_one = refl; found = is; asked = asked }
 
-pub one_passed : (old new : Option (List DiskCall)) (before : List (List ℕ)) (kind : ErrorKind) → is_no_text kind ≡ true → Does (Named (Err kind) ∷ []) old new → ListsEntry old new before before
+pub one_passed : (old new : Option (List DiskCall)) (before : List (List ℕ)) (kind : ErrorKind) → is_no_text kind ≡ true → Does (Named (Err kind) ∷ []) old new
+    → ListsEntry old new before before
 one_passed old new before kind is asked = record { entry = Named (Err kind); is_one = is; found = sym (append-nil before); asked = asked }
 
-pub all_listed : (old mid new : Option (List DiskCall)) (before after last : List (List ℕ)) → last ≡ after → Listing old mid before after → Does (Named (Ok None) ∷ []) mid new → ListsOn old new before last
+pub all_listed : (old mid new : Option (List DiskCall)) (before after last : List (List ℕ)) → last ≡ after → Listing old mid before after
+    → Does (Named (Ok None) ∷ []) mid new → ListsOn old new before last
 all_listed old mid new before after last same h end = record {
   entries = h.entries;
   names = h.names;

@@ -20,7 +20,8 @@ GoesOn text rest kept = (lines : List (List ℕ)) (rows : List HostRow) → Spel
 pub listing_begins : (text : List ℕ) → GoesOn text text []
 listing_begins text = λ lines rows spelled all. record { lines = lines; read = rows; all = all; spelled = spelled; in_order = refl }
 
-pub one_row : (text rest others line : List ℕ) (kept more : List HostRow) (row : HostRow) → rest ≡ line ++ 10 ∷ others → SpellsRow line row → more ≡ with_row row kept
+pub one_row : (text rest others line : List ℕ) (kept more : List HostRow) (row : HostRow) → rest ≡ line ++ 10 ∷ others → SpellsRow line row
+    → more ≡ with_row row kept
     → GoesOn text rest kept → GoesOn text others more
 one_row text rest others line kept more row is spells put h = λ lines rows spelled all.
     let whole = h (line ∷ lines) (row ∷ rows) (spells, spelled) (is ∙ ap (λ xs. line ++ 10 ∷ xs) all) in

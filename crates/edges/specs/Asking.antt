@@ -14,8 +14,10 @@ abbrev pub failure_of : {T : Type 0} → Result T ErrorKind → Option ErrorKind
 failure_of (Ok x) = None
 failure_of (Err kind) = Some kind
 
--- A device answers by what it asked of the system: that was done, or gave nothing for some reason. For want of memory nothing is asked.
-abbrev pub Answered : {T : Type 0} → (asked : Option ErrorKind → Type 0) → (unasked : Type 0) → Result T DeviceAnswer → Type 0
+-- A device answers by what it asked of the system: that was done, or gave nothing for some reason. For want of memory
+-- nothing is asked.
+abbrev pub Answered : {T : Type 0} → (asked : Option ErrorKind → Type 0) → (unasked : Type 0) → Result T DeviceAnswer
+    → Type 0
 Answered asked unasked (Ok x) = asked None
 Answered asked unasked (Err Answer.Failed) = (kind : ErrorKind) × asked (Some kind)
 Answered asked unasked (Err Answer.NoMemory) = unasked

@@ -1,5 +1,5 @@
--- What a datagram of the loopback link says. Its first byte is its kind, the second the interface; the rest is as the kind says.
--- A datagram of no form says nothing, as if time had passed.
+-- What a datagram of the loopback link says. Its first byte is its kind, the second the interface; the rest is as the
+-- kind says. A datagram of no form says nothing, as if time had passed.
 use Rattle.std.specs.Prelude.{ℕ, Bool, true, false, ◌&&◌, ◌==◌, nat_le, List, [], ◌∷◌, length, if◌then◌else◌}
 use Rattle.net_types.specs.Fields.{ip6_field}
 use Rattle.world.specs.declared.wakes.Event.{Event}

@@ -19,7 +19,8 @@ is_missing failure = false
 -- A file or a folder is opened, synced and closed. One that can't be opened isn't synced.
 abbrev pub Syncs : (path : List ℕ) → (old new : Option (List DiskCall)) → Option ErrorKind → Type 0
 Syncs path old new None = Does (Closed ∷ Synced None ∷ Opened path None ∷ []) old new
-Syncs path old new (Some kind) = Does (Opened path (Some kind) ∷ []) old new ⊎ Does (Closed ∷ Synced (Some kind) ∷ Opened path None ∷ []) old new
+Syncs path old new (Some kind) =
+    Does (Opened path (Some kind) ∷ []) old new ⊎ Does (Closed ∷ Synced (Some kind) ∷ Opened path None ∷ []) old new
 
 -- these bytes were written to the open file, in pieces
 pub record WritesAll (bytes : List ℕ) (old new : Option (List DiskCall)) : Type 0 where
@@ -48,11 +49,14 @@ pub record WritesTo (path bytes : List ℕ) (failure : Option ErrorKind) (old ne
 
 abbrev pub Writes : (path bytes : List ℕ) → (old new : Option (List DiskCall)) → Option ErrorKind → Type 0
 Writes path bytes old new None = WritesTo path bytes None old new
-Writes path bytes old new (Some kind) = Does (Made path (Some kind) ∷ []) old new ⊎ WritesTo path bytes (Some kind) old new
+Writes path bytes old new (Some kind) =
+    Does (Made path (Some kind) ∷ []) old new ⊎ WritesTo path bytes (Some kind) old new
 
 -- A file that isn't there is removed already.
 abbrev pub Removes : (path : List ℕ) → (old new : Option (List DiskCall)) → Option ErrorKind → Type 0
-Removes path old new None = Does (Removed path None ∷ []) old new ⊎ ((kind : ErrorKind) × (is_missing kind ≡ true) × Does (Removed path (Some kind) ∷ []) old new)
+Removes path old new None =
+    Does (Removed path None ∷ []) old new
+    ⊎ ((kind : ErrorKind) × (is_missing kind ≡ true) × Does (Removed path (Some kind) ∷ []) old new)
 Removes path old new (Some kind) = (is_missing kind ≡ false) × Does (Removed path (Some kind) ∷ []) old new
 
 -- all that the open file holds was read, to its end
@@ -69,18 +73,21 @@ pub record ReadsSome (old new : Option (List DiskCall)) : Type 0 where
   pub asked : Does pieces old new
 
 -- Where reading fails, a front of what the file holds may be appended.
-abbrev pub ReadsOn : {T : Type 0} → (old new : Option (List DiskCall)) → (before after : List ℕ) → Result T DeviceAnswer → Type 0
+abbrev pub ReadsOn : {T : Type 0} → (old new : Option (List DiskCall)) → (before after : List ℕ) → Result T DeviceAnswer
+    → Type 0
 ReadsOn old new before after (Ok x) = ReadsAll old new before after
 ReadsOn old new before after (Err answer) = (take (length before) after ≡ before) × ReadsSome old new
 
 -- what is read of a file that was opened, and is closed then; the calls are those since it was opened
-pub record ReadsAndCloses (reads : (old new : Option (List DiskCall)) → Type 0) (opened new : Option (List DiskCall)) : Type 0 where
+pub record ReadsAndCloses (reads : (old new : Option (List DiskCall)) → Type 0)
+    (opened new : Option (List DiskCall)) : Type 0 where
   pub ended : Option (List DiskCall)
   pub read : reads opened ended
   pub closed : Does (Closed ∷ []) ended new
 
 -- a file is opened, read and closed
-pub record ReadsIt (path : List ℕ) (reads : (old new : Option (List DiskCall)) → Type 0) (old new : Option (List DiskCall)) : Type 0 where
+pub record ReadsIt (path : List ℕ) (reads : (old new : Option (List DiskCall)) → Type 0)
+    (old new : Option (List DiskCall)) : Type 0 where
   pub opened : Option (List DiskCall)
   pub begun : Does (Opened path None ∷ []) old opened
   pub rest : ReadsAndCloses reads opened new
@@ -91,7 +98,8 @@ pub record Refused (path : List ℕ) (missing : Bool) (old new : Option (List Di
   pub is_so : is_missing kind ≡ missing
   pub asked : Does (Opened path (Some kind) ∷ []) old new
 
-abbrev pub ReadsOpened : (opened new : Option (List DiskCall)) → (before after : List ℕ) → Result Bool DeviceAnswer → Type 0
+abbrev pub ReadsOpened : (opened new : Option (List DiskCall)) → (before after : List ℕ) → Result Bool DeviceAnswer
+    → Type 0
 ReadsOpened opened new before after (Ok true) = ReadsAndCloses (λ old new. ReadsAll old new before after) opened new
 ReadsOpened opened new before after (Ok false) = ⊥
 ReadsOpened opened new before after (Err answer) = (after ≡ before) × ReadsAndCloses ReadsSome opened new
@@ -102,11 +110,14 @@ IsUnopened missing (Ok true) = ⊥
 IsUnopened missing (Ok false) = missing ≡ true
 IsUnopened missing (Err answer) = missing ≡ false
 
--- A file is missing where the system says so when it is opened, and for no other failure. Want of memory may come before it is opened.
-abbrev pub ReadsPath : (path : List ℕ) → (old new : Option (List DiskCall)) → (before after : List ℕ) → Result Bool DeviceAnswer → Type 0
+-- A file is missing where the system says so when it is opened, and for no other failure. Want of memory may come
+-- before it is opened.
+abbrev pub ReadsPath : (path : List ℕ) → (old new : Option (List DiskCall)) → (before after : List ℕ)
+    → Result Bool DeviceAnswer → Type 0
 ReadsPath path old new before after (Ok true) = ReadsIt path (λ old new. ReadsAll old new before after) old new
 ReadsPath path old new before after (Ok false) = (after ≡ before) × Refused path true old new
-ReadsPath path old new before after (Err answer) = (after ≡ before) × ((new ≡ old) ⊎ Refused path false old new ⊎ ReadsIt path ReadsSome old new)
+ReadsPath path old new before after (Err answer) =
+    (after ≡ before) × ((new ≡ old) ⊎ Refused path false old new ⊎ ReadsIt path ReadsSome old new)
 
 -- a name that a store's aside may have
 abbrev pub is_aside_name : List ℕ → Bool
@@ -124,7 +135,8 @@ pub record ListsEntry (old new : Option (List DiskCall)) (before after : List (L
   pub asked : Does (entry ∷ []) old new
 
 -- whether the listing goes on
-abbrev pub ListsOne : (old new : Option (List DiskCall)) → (before after : List (List ℕ)) → Result Bool DeviceAnswer → Type 0
+abbrev pub ListsOne : (old new : Option (List DiskCall)) → (before after : List (List ℕ)) → Result Bool DeviceAnswer
+    → Type 0
 ListsOne old new before after (Ok true) = ListsEntry old new before after
 ListsOne old new before after (Ok false) = (after ≡ before) × Does (Named (Ok None) ∷ []) old new
 ListsOne old new before after (Err answer) = Unit {0}
@@ -143,7 +155,8 @@ pub record ListsAll (path : List ℕ) (old new : Option (List DiskCall)) (found 
   pub listed : ListsOn begun new [] found
 
 -- the names of all asides of the folder were appended, each as often as it was listed
-pub record Appends (path : List ℕ) (old new : Option (List DiskCall)) (before after : List (String Global)) : Type 0 where
+pub record Appends (path : List ℕ) (old new : Option (List DiskCall))
+    (before after : List (String Global)) : Type 0 where
   pub found : List (String Global)
   pub names : List (String Global)
   pub appended : after ≡ before ++ names

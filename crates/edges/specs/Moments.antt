@@ -1,5 +1,5 @@
--- The moments that the loopback link tells, in milliseconds since 1970. The first of a life is the wall clock's; each later one is
--- that and what has passed since, by a clock that nobody sets.
+-- The moments that the loopback link tells, in milliseconds since 1970. The first of a life is the wall clock's; each
+-- later one is that and what has passed since, by a clock that nobody sets.
 use Rattle.std.specs.Prelude.{ℕ, ◌+◌, ◌-◌, ◌/◌, ◌^◌, min, max}
 
 -- the moment of a life that began at a moment, when the other clock read so many nanoseconds as it does now

@@ -11,8 +11,8 @@ abbrev pub wait_end : Option ℕ → ℕ → ℕ
 wait_end None now = min (now + IDLE) 18446744073709551615
 wait_end (Some until) now = until
 
--- A wait is made of pieces. The system ends each late by an eighth of it at most, and so a piece that isn't short leaves that
--- much of the wait for others; the last one is short.
+-- A wait is made of pieces. The system ends each late by an eighth of it at most, and so a piece that isn't short
+-- leaves that much of the wait for others; the last one is short.
 abbrev pub piece_of : ℕ → ℕ
 piece_of left = if nat_le left SHORT then max left 1 else min (left - left / 8) LONGEST
 

@@ -1,5 +1,5 @@
--- The calls of the system on a socket of the loopback address and on the clocks, with their answers, and what the loopback link
--- wants of them. `old` and `new` are the calls before and after, the last one first.
+-- The calls of the system on a socket of the loopback address and on the clocks, with their answers, and what the
+-- loopback link wants of them. `old` and `new` are the calls before and after, the last one first.
 use Rattle.std.specs.Prelude.{ℕ, Bool, true, false, ◌≡◌, ◌⊎◌, ◌/◌, List, [], ◌∷◌, take, Option, None, Some, Result, Ok, Err}
 use Rattle.std.specs.declared.io.ErrorKind.{ErrorKind}
 use Rattle.std.specs.Duration.{as_nanos}
@@ -45,7 +45,8 @@ steady_nanos (Ok time) = Ok (instant_nanos time)
 steady_nanos (Err kind) = Err kind
 
 -- A socket that is bound isn't bound again.
-abbrev pub Binds : {T : Type 0} → (bound : Bool) → (port : ℕ) → (old new : Option (List WireCall)) → Result T Failed → Type 0
+abbrev pub Binds : {T : Type 0} → (bound : Bool) → (port : ℕ) → (old new : Option (List WireCall)) → Result T Failed
+    → Type 0
 Binds true port old new result = new ≡ old
 Binds false port old new (Ok x) = Does (Bound port None ∷ []) old new
 Binds false port old new (Err e) = (kind : ErrorKind) × Does (Bound port (Some kind) ∷ []) old new
@@ -58,7 +59,8 @@ pub record Hears (millis peer : ℕ) (bytes : List ℕ) (old new : Option (List 
   pub asked : Does (Received (Ok (record { bytes = bytes; sender = sender })) ∷ Limited millis None ∷ []) old new
 
 -- Of what others send nothing is taken. A failure that says that nothing came is none.
-abbrev pub Receives : (millis peer : ℕ) → (buffer : List ℕ) → (old new : Option (List WireCall)) → Result (Option ℕ) Failed → Type 0
+abbrev pub Receives : (millis peer : ℕ) → (buffer : List ℕ) → (old new : Option (List WireCall))
+    → Result (Option ℕ) Failed → Type 0
 Receives millis peer buffer old new (Ok (Some len)) = Hears millis peer (take len buffer) old new
 Receives millis peer buffer old new (Ok None) =
     ((datagram : Datagram) × Does (Received (Ok datagram) ∷ Limited millis None ∷ []) old new)

@@ -70,7 +70,8 @@ impl<C: Children + Drop> Hooks for ChildHooks<C> {
         ensures cause { HasDeviceCause self.old.faults.count self.new.faults.count result }
         ensures runs { RunsIfDone self.new.running result }
         ensures script { self.new.script ≡ self.old.script }
-        ensures asked { Starts (script_run (string_bytes self.old.script) (string_bytes job.now.script)) (map variable_of job.now.vars.items) (C.calls self.old.children) (C.calls self.new.children) result }
+        ensures asked { Starts (script_run (string_bytes self.old.script) (string_bytes job.now.script))
+            (map variable_of job.now.vars.items) (C.calls self.old.children) (C.calls self.new.children) result }
     {
         let script = script_of(&self.script, &job.script);
         match self.children.start(script, false, &job.vars) {

@@ -131,8 +131,8 @@ fn listed(rt: &(impl Processes + AllocGlobal), script: &str) -> io::Result<std::
 
 /// The host's tables, as a script lists and changes them. What they hold isn't told.
 ///
-/// The script's first word says what it is to do: `host-list` prints all rows, a line for each; `host-add` and `host-del`
-/// are followed by the words of a row. Status 0 is success. A script that doesn't end is waited for.
+/// The script's first word says what it is to do: `host-list` prints all rows, a line for each; `host-add` and
+/// `host-del` are followed by the words of a row. Status 0 is success. A script that doesn't end is waited for.
 #[derive(Drop)]
 pub struct CommandHost<R: Processes + AllocGlobal + Drop> {
     rt: R,

@@ -4,8 +4,8 @@ ghost use Rattle.edges.specs.DiskCalls.{DiskCall, Opened, Made, Read, Wrote, Syn
 
 use std::io::ErrorKind;
 
-/// The files of a machine, by their paths. Each method is one call of the system, and one that names no file is about the one
-/// that was opened last. A call that gave nothing says why, as the system does.
+/// The files of a machine, by their paths. Each method is one call of the system, and one that names no file is about
+/// the one that was opened last. A call that gave nothing says why, as the system does.
 pub trait Disk {
     /// The calls so far with their answers, the last one first, where these are told.
     ghost calls: { Self → Option (List DiskCall) };

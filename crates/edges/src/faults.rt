@@ -6,8 +6,8 @@ ghost use Rattle.edges.specs.Counts.{Counted, AnswersAs};
 use std::io::ErrorKind;
 use world::{DeviceAnswer, Failed};
 
-/// How many calls of a device failed, up to 2^64 - 1. A device that can count no more answers that memory is wanted; it doesn't
-/// come to that.
+/// How many calls of a device failed, up to 2^64 - 1. A device that can count no more answers that memory is wanted; it
+/// doesn't come to that.
 #[derive(Clone, Copy)]
 pub(crate) struct Faults {
     pub(crate) count: u64,
@@ -62,7 +62,8 @@ impl Faults {
         }
     }
 
-    /// The answer of calls of the system that may have changed something: without success they failed, whatever the reason.
+    /// The answer of calls of the system that may have changed something: without success they failed, whatever the
+    /// reason.
     pub(crate) fn answered(&mut self, answer: Result<(), ErrorKind>) -> Result<(), DeviceAnswer>
         ensures cause { HasDeviceCause self.old.count self.new.count result }
         ensures as_asked { self.old.count < 2 ^ 64 - 1 → AnswersAs (failure_of answer) result }

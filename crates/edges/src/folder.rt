@@ -193,7 +193,8 @@ fn append_file<D: Disk>(disk: &mut D, path: &str, into: &mut Vec<u8>) -> Result<
 fn list_one<D: Disk>(disk: &mut D, names: &mut Vec<String>) -> Result<bool, DeviceAnswer>
     requires { All (λ name. IsFileName (string_bytes name)) names.old.items }
     ensures named { All (λ name. IsFileName (string_bytes name)) names.new.items }
-    ensures listed { ListsOne (D.calls disk.old) (D.calls disk.new) (map string_bytes names.old.items) (map string_bytes names.new.items) result }
+    ensures listed { ListsOne (D.calls disk.old) (D.calls disk.new) (map string_bytes names.old.items)
+        (map string_bytes names.new.items) result }
 {
     match disk.next_name() {
         Ok(None) => Ok(false),
@@ -216,7 +217,9 @@ fn list_one<D: Disk>(disk: &mut D, names: &mut Vec<String>) -> Result<bool, Devi
 fn list_on<D: Disk>(disk: &mut D, names: &mut Vec<String>) -> Result<(), DeviceAnswer>
     requires { All (λ name. IsFileName (string_bytes name)) names.old.items }
     ensures named { All (λ name. IsFileName (string_bytes name)) names.new.items }
-    ensures listed { OnOk result (ListsOn (D.calls disk.old) (D.calls disk.new) (map string_bytes names.old.items) (map string_bytes names.new.items)) }
+    ensures listed { OnOk result
+        (ListsOn (D.calls disk.old) (D.calls disk.new) (map string_bytes names.old.items)
+        (map string_bytes names.new.items)) }
 {
     'entries: for _ in 0..u64::MAX {
         if !list_one(disk, names)? {
@@ -230,7 +233,9 @@ fn list_on<D: Disk>(disk: &mut D, names: &mut Vec<String>) -> Result<(), DeviceA
 fn keep_aside(names: &mut Vec<String>, name: String) -> Result<(), DeviceAnswer>
     requires { All (λ name. IsFileName (string_bytes name)) names.old.items }
     ensures named { All (λ name. IsFileName (string_bytes name)) names.new.items }
-    ensures kept { OnOk result (map string_bytes names.new.items ≡ map string_bytes names.old.items ++ filter is_aside_name (string_bytes name ∷ [])) }
+    ensures kept { OnOk result
+        (map string_bytes names.new.items
+        ≡ map string_bytes names.old.items ++ filter is_aside_name (string_bytes name ∷ [])) }
 {
     if !is_aside_name(name.as_bytes()) {
         return Ok(());
@@ -248,7 +253,8 @@ fn found_asides<D: Disk>(
     dir: &str,
 ) -> Result<Vec<String>, DeviceAnswer>
     ensures named { IfOk result (λ names. All (λ name. IsFileName (string_bytes name)) names.items) }
-    ensures listed { IfOk result (λ names. ListsAll dir.now (D.calls disk.old) (D.calls disk.new) (map string_bytes names.items)) }
+    ensures listed { IfOk result
+        (λ names. ListsAll dir.now (D.calls disk.old) (D.calls disk.new) (map string_bytes names.items)) }
 {
     let mut names = Vec::new(alloc);
     match disk.list(dir) {
@@ -341,7 +347,9 @@ impl<D: Disk + Drop> Store for FolderStore<D> {
         ensures cause { HasDeviceCause self.old.faults.count self.new.faults.count result }
         ensures names { AppendsNames names.old.items names.new.items result }
         ensures folder { self.new.dir ≡ self.old.dir }
-        ensures asked { OnOk result (Appends (string_bytes self.old.dir) (D.calls self.old.disk) (D.calls self.new.disk) names.old.items names.new.items) }
+        ensures asked { OnOk result
+            (Appends (string_bytes self.old.dir) (D.calls self.old.disk)
+            (D.calls self.new.disk) names.old.items names.new.items) }
     {
         match append_asides(&mut self.disk, self.alloc, &self.dir, names) {
             Ok(()) => Ok(()),
@@ -353,7 +361,8 @@ impl<D: Disk + Drop> Store for FolderStore<D> {
         ensures cause { HasDeviceCause self.old.faults.count self.new.faults.count result }
         ensures err { OnErr result (into.new.items ≡ into.old.items) }
         ensures folder { self.new.dir ≡ self.old.dir }
-        ensures asked { ReadsPath (file_path (string_bytes self.old.dir) name.now) (D.calls self.old.disk) (D.calls self.new.disk) into.old.items into.new.items result }
+        ensures asked { ReadsPath (file_path (string_bytes self.old.dir) name.now) (D.calls self.old.disk)
+            (D.calls self.new.disk) into.old.items into.new.items result }
     {
         let path = self.path(name)?;
         match append_file(&mut self.disk, &path, into) {
@@ -365,7 +374,10 @@ impl<D: Disk + Drop> Store for FolderStore<D> {
     fn write_aside(&mut self, name: &str, bytes: &[u8]) -> Result<(), DeviceAnswer>
         ensures cause { HasDeviceCause self.old.faults.count self.new.faults.count result }
         ensures folder { self.new.dir ≡ self.old.dir }
-        ensures asked { Answered (Writes (file_path (string_bytes self.old.dir) (aside_of name.now)) bytes.now (D.calls self.old.disk) (D.calls self.new.disk)) (D.calls self.new.disk ≡ D.calls self.old.disk) result }
+        ensures asked { Answered
+            (Writes (file_path (string_bytes self.old.dir) (aside_of name.now)) bytes.now (D.calls self.old.disk)
+            (D.calls self.new.disk))
+            (D.calls self.new.disk ≡ D.calls self.old.disk) result }
     {
         let aside = self.aside(name)?;
         self.faults.room()?;
@@ -376,7 +388,10 @@ impl<D: Disk + Drop> Store for FolderStore<D> {
     fn sync_aside(&mut self, name: &str) -> Result<(), DeviceAnswer>
         ensures cause { HasDeviceCause self.old.faults.count self.new.faults.count result }
         ensures folder { self.new.dir ≡ self.old.dir }
-        ensures asked { Answered (Syncs (file_path (string_bytes self.old.dir) (aside_of name.now)) (D.calls self.old.disk) (D.calls self.new.disk)) (D.calls self.new.disk ≡ D.calls self.old.disk) result }
+        ensures asked { Answered
+            (Syncs (file_path (string_bytes self.old.dir) (aside_of name.now)) (D.calls self.old.disk)
+            (D.calls self.new.disk))
+            (D.calls self.new.disk ≡ D.calls self.old.disk) result }
     {
         let aside = self.aside(name)?;
         self.faults.room()?;
@@ -387,7 +402,10 @@ impl<D: Disk + Drop> Store for FolderStore<D> {
     fn rename_aside(&mut self, name: &str) -> Result<(), DeviceAnswer>
         ensures cause { HasDeviceCause self.old.faults.count self.new.faults.count result }
         ensures folder { self.new.dir ≡ self.old.dir }
-        ensures asked { Answered (Renames (file_path (string_bytes self.old.dir) (aside_of name.now)) (file_path (string_bytes self.old.dir) name.now) (D.calls self.old.disk) (D.calls self.new.disk)) (D.calls self.new.disk ≡ D.calls self.old.disk) result }
+        ensures asked { Answered
+            (Renames (file_path (string_bytes self.old.dir) (aside_of name.now))
+            (file_path (string_bytes self.old.dir) name.now) (D.calls self.old.disk) (D.calls self.new.disk))
+            (D.calls self.new.disk ≡ D.calls self.old.disk) result }
     {
         let aside = self.aside(name)?;
         let path = self.path(name)?;
@@ -399,7 +417,10 @@ impl<D: Disk + Drop> Store for FolderStore<D> {
     fn remove(&mut self, name: &str) -> Result<(), DeviceAnswer>
         ensures cause { HasDeviceCause self.old.faults.count self.new.faults.count result }
         ensures folder { self.new.dir ≡ self.old.dir }
-        ensures asked { Answered (Removes (file_path (string_bytes self.old.dir) name.now) (D.calls self.old.disk) (D.calls self.new.disk)) (D.calls self.new.disk ≡ D.calls self.old.disk) result }
+        ensures asked { Answered
+            (Removes (file_path (string_bytes self.old.dir) name.now) (D.calls self.old.disk)
+            (D.calls self.new.disk))
+            (D.calls self.new.disk ≡ D.calls self.old.disk) result }
     {
         let path = self.path(name)?;
         self.faults.room()?;
@@ -410,7 +431,8 @@ impl<D: Disk + Drop> Store for FolderStore<D> {
     fn settle(&mut self) -> Result<(), DeviceAnswer>
         ensures cause { HasDeviceCause self.old.faults.count self.new.faults.count result }
         ensures folder { self.new.dir ≡ self.old.dir }
-        ensures asked { Answered (Syncs (string_bytes self.old.dir) (D.calls self.old.disk) (D.calls self.new.disk)) (D.calls self.new.disk ≡ D.calls self.old.disk) result }
+        ensures asked { Answered (Syncs (string_bytes self.old.dir) (D.calls self.old.disk) (D.calls self.new.disk))
+            (D.calls self.new.disk ≡ D.calls self.old.disk) result }
     {
         self.faults.room()?;
         let synced = sync(&mut self.disk, &self.dir);

@@ -1,9 +1,10 @@
-//! The outside of the daemon on a real machine: the standard streams, files in a folder, scripts that keep the host's rows,
-//! children that run hooks, and datagrams on the loopback address in the place of interfaces.
+//! The outside of the daemon on a real machine: the standard streams, files in a folder, scripts that keep the host's
+//! rows, children that run hooks, and datagrams on the loopback address in the place of interfaces.
 //!
-//! Files, children and datagrams stand over traits of this crate, each method of which is one call of the system: `Disk`,
-//! `Children` and `Loopback`. Where a machine tells its calls, each device says which it made, and that it answers by them. The
-//! runtime's own calls (`system`) tell nothing, and are trusted, as are the scripts that keep the host's rows.
+//! Files, children and datagrams stand over traits of this crate, each method of which is one call of the system:
+//! `Disk`, `Children` and `Loopback`. Where a machine tells its calls, each device says which it made, and that it
+//! answers by them. The runtime's own calls (`system`) tell nothing, and are trusted, as are the scripts that keep the
+//! host's rows.
 #![tactic(auto)]
 
 mod children;

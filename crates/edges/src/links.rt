@@ -68,7 +68,8 @@ fn glancing(seen: Seen, piece: u64) -> u64
     }
 }
 
-/// Whether a piece of a wait is over without a datagram: its time ran out, or a signal cut it short, as after a pause of the process.
+/// Whether a piece of a wait is over without a datagram: its time ran out, or a signal cut it short, as after a pause
+/// of the process.
 fn is_over(kind: ErrorKind) -> bool
     ensures { result ≡ is_over kind }
 {
@@ -103,7 +104,8 @@ struct Wire<L: Loopback + Drop, W: Watch + Drop> {
 
 /// How long the datagram is that came, where the peer sent it.
 fn from_peer(arrival: Arrival, peer: u16) -> Option<usize>
-    ensures { IfSome result (λ len. (len ≡ arrival.len) × (arrival.sender.address ≡ LOOPBACK) × (arrival.sender.port ≡ peer)) }
+    ensures { IfSome result
+        (λ len. (len ≡ arrival.len) × (arrival.sender.address ≡ LOOPBACK) × (arrival.sender.port ≡ peer)) }
 {
     if arrival.sender.address == LOOPBACK && arrival.sender.port == peer {
         Some(arrival.len)
@@ -234,7 +236,9 @@ impl<L: Loopback + Drop, W: Watch + Drop> Wire<L, W> {
 
     /// Sends the datagram of a frame to the peer.
     fn send(&mut self, iface: IfIndex, frame: &[u8]) -> Result<(), DeviceAnswer>
-        ensures asked { OnOk result (Does (Sent (frame_datagram iface.number frame.now) self.old.peer None ∷ []) (L.calls self.old.line) (L.calls self.new.line)) }
+        ensures asked { OnOk result
+            (Does (Sent (frame_datagram iface.number frame.now) self.old.peer None ∷ []) (L.calls self.old.line)
+            (L.calls self.new.line)) }
     {
         let Ok(iface) = u8::try_from(iface.number) else {
             return Err(DeviceAnswer::Failed);
@@ -251,8 +255,8 @@ impl<L: Loopback + Drop, W: Watch + Drop> Wire<L, W> {
 
 /// Interfaces whose frames are datagrams on the loopback address. What comes isn't told.
 ///
-/// A datagram from the peer's port is one event; any other is passed over. The end of a child ends a wait. A send reaches the
-/// peer, or nobody.
+/// A datagram from the peer's port is one event; any other is passed over. The end of a child ends a wait. A send
+/// reaches the peer, or nobody.
 #[derive(Drop)]
 pub struct LoopLink<L: Loopback + Drop, W: Watch + Drop> {
     wire: Wire<L, W>,
@@ -262,7 +266,8 @@ pub struct LoopLink<L: Loopback + Drop, W: Watch + Drop> {
 }
 
 impl<L: Loopback + Drop, W: Watch + Drop> LoopLink<L, W> {
-    /// A link between two ports of 127.0.0.1, its own and the peer's. A word that is no port stands for 0. Nothing is opened yet.
+    /// A link between two ports of 127.0.0.1, its own and the peer's. A word that is no port stands for 0. Nothing is
+    /// opened yet.
     pub fn new(alloc: Global, line: L, watch: W, port: &str, peer: &str) -> LoopLink<L, W>
         ensures port { result.wire.port ≡ port_named port.now }
         ensures peer { result.wire.peer ≡ port_named peer.now }
@@ -292,7 +297,9 @@ impl<L: Loopback + Drop, W: Watch + Drop> LoopLink<L, W> {
         ensures cause { HasCause self.old.faults.count self.new.faults.count result }
         ensures no_send { self.new.send_faults ≡ self.old.send_faults }
         ensures no_begin { self.new.begins ≡ self.old.begins }
-        ensures asked { self.old.faults.count < 2 ^ 64 - 1 → Binds self.old.wire.bound self.old.wire.port (L.calls self.old.wire.line) (L.calls self.new.wire.line) result }
+        ensures asked { self.old.faults.count < 2 ^ 64 - 1
+            → Binds self.old.wire.bound self.old.wire.port (L.calls self.old.wire.line)
+            (L.calls self.new.wire.line) result }
     {
         match self.wire.bind() {
             Ok(()) => Ok(()),

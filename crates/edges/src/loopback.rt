@@ -24,8 +24,8 @@ pub struct Arrival {
     pub sender: Sender,
 }
 
-/// A socket of the loopback address, and the clocks of a machine. Each method is one call of the system. A call that gave nothing
-/// says why.
+/// A socket of the loopback address, and the clocks of a machine. Each method is one call of the system. A call that
+/// gave nothing says why.
 pub trait Loopback {
     /// The calls so far with their answers, the last one first, where these are told.
     ghost calls: { Self → Option (List WireCall) };

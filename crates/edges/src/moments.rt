@@ -33,7 +33,8 @@ fn wall_moment<L: Loopback>(line: &mut L) -> Result<u64, Failed>
 
 /// The clock that nobody sets, and that doesn't go back.
 fn steady_now<L: Loopback>(line: &mut L) -> Result<Instant, Failed>
-    ensures { IfOk result (λ now. Does (SteadyRead (Ok (instant_nanos now)) ∷ []) (L.calls line.old) (L.calls line.new)) }
+    ensures { IfOk result
+        (λ now. Does (SteadyRead (Ok (instant_nanos now)) ∷ []) (L.calls line.old) (L.calls line.new)) }
 {
     match line.steady() {
         Ok(now) => Ok(now),
@@ -55,7 +56,9 @@ impl Moments {
     /// The moments of a life that begins now.
     pub(crate) fn begin<L: Loopback>(line: &mut L) -> Result<Moments, Failed>
         ensures last { IfOk result (λ moments. moments.last ≡ moments.begun) }
-        ensures begun { IfOk result (λ moments. BeginsWith moments.begun (instant_nanos moments.since) (L.calls line.old) (L.calls line.new)) }
+        ensures begun { IfOk result
+            (λ moments. BeginsWith moments.begun (instant_nanos moments.since) (L.calls line.old)
+            (L.calls line.new)) }
     {
         let begun = wall_moment(line)?;
         let since = steady_now(line)?;
@@ -85,7 +88,8 @@ impl Moments {
 
     /// The moment at which the steady clock reads so, or the last one that was told, where that is later.
     fn tell(&mut self, now: Instant) -> u64
-        ensures told { result ≡ next_moment self.old.last self.old.begun (instant_nanos self.old.since) (instant_nanos now) }
+        ensures told { result
+            ≡ next_moment self.old.last self.old.begun (instant_nanos self.old.since) (instant_nanos now) }
         ensures kept { self.new ≡ record self.old { last = result } }
     {
         self.last = self.last.max(self.at(now));
@@ -96,7 +100,9 @@ impl Moments {
     pub(crate) fn now<L: Loopback>(&mut self, line: &mut L) -> Result<u64, Failed>
         ensures never_falls { IfOk result (λ at. self.old.last ≤ at) }
         ensures kept { IfOk result (λ at. self.new ≡ record self.old { last = at }) }
-        ensures read { IfOk result (λ at. TellsMoment at self.old.last self.old.begun (instant_nanos self.old.since) (L.calls line.old) (L.calls line.new)) }
+        ensures read { IfOk result
+            (λ at. TellsMoment at self.old.last self.old.begun (instant_nanos self.old.since) (L.calls line.old)
+            (L.calls line.new)) }
     {
         let now = steady_now(line)?;
         Ok(self.tell(now))

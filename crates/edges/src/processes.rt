@@ -11,10 +11,11 @@ pub trait Children {
     /// The calls so far with their answers, the last one first, where these are told.
     ghost calls: { Self → Option (List ChildCall) };
 
-    /// Starts a child with these variables, and with those of this process too where it inherits. It reads nothing, and what
-    /// it prints is dropped.
+    /// Starts a child with these variables, and with those of this process too where it inherits. It reads nothing, and
+    /// what it prints is dropped.
     fn start(&mut self, program: &str, inherits: bool, vars: &[HookVar]) -> Result<(), ErrorKind>
-        ensures { Does (Started program.now inherits (map variable_of vars.now) (failure_of result) ∷ []) (calls self.old) (calls self.new) };
+        ensures { Does (Started program.now inherits (map variable_of vars.now) (failure_of result) ∷ [])
+            (calls self.old) (calls self.new) };
 
     /// The status that the child ended with, as a shell tells it; `None` while it runs.
     fn ask(&mut self) -> Result<Option<u32>, ErrorKind>

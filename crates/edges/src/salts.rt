@@ -17,8 +17,8 @@ pub(crate) const FIRST: u64 = 0xbf58_476d_1ce4_e5b9;
 /// The factor of the second.
 pub(crate) const SECOND: u64 = 0x94d0_49bb_1331_11eb;
 
-/// The random words of a link, by SplitMix64 (Steele, Lea and Flood, "Fast splittable pseudorandom number generators", OOPSLA
-/// 2014, with the mixing of Stafford's thirteenth variant). A contract sees its state.
+/// The random words of a link, by SplitMix64 (Steele, Lea and Flood, "Fast splittable pseudorandom number generators",
+/// OOPSLA 2014, with the mixing of Stafford's thirteenth variant). A contract sees its state.
 #[derive(Drop)]
 pub struct Salts {
     state: u64,

@@ -84,7 +84,9 @@ ItemsHave managed specs opening mets iface = (lease : Lease6Content) (ia : IaLea
 
 -- What items owe: this holds in every life.
 abbrev pub ItemsAreBased : Type 0
-ItemsAreBased = (managed : List Managed) (specs : List IfSpec) (opening : OpeningMet) (mets : List Met) → IsLife managed specs opening mets → AreManaged managed → AreOctets mets
+ItemsAreBased =
+    (managed : List Managed) (specs : List IfSpec) (opening : OpeningMet) (mets : List Met) → IsLife managed specs opening mets → AreManaged managed
+    → AreOctets mets
     → AllByRecursion (ItemsHave managed specs opening mets) (life_after opening.life mets).client.ifaces
 
 -- an address of an item that a Reply gave, or of one of the kept lease
@@ -185,7 +187,8 @@ module _ (managed : List Managed) (specs : List IfSpec) (opening : OpeningMet) (
     among : Contains managed iface.managed
 
   without_lease : (site : Site) (net : Net) (Without Without6 : Type 0) → Without → Without6
-      → (StaticBasis site net shown ⊎ (StrongBasis site net shown ⊎ ((Without → ⊥) ⊎ (Without6 → ⊥)))) → StaticBasis site net shown ⊎ LinkLocalBasis site net shown
+      → (StaticBasis site net shown ⊎ (StrongBasis site net shown ⊎ ((Without → ⊥) ⊎ (Without6 → ⊥))))
+      → StaticBasis site net shown ⊎ LinkLocalBasis site net shown
   without_lease site net Without Without6 it six (inl line) = inl line
   without_lease site net Without Without6 it six (inr (inl choice)) = inr (local_weaker site net shown choice)
   without_lease site net Without Without6 it six (inr (inr (inl leased))) = absurd (leased it)
@@ -224,7 +227,8 @@ module _ (managed : List Managed) (specs : List IfSpec) (opening : OpeningMet) (
 
   -- ---- with leases
 
-  module _ (Carries : Relation) (leases : AreBased Carries) (items : ItemsAreBased) (fit : AreManaged managed) (others : AreSharedWithOthers managed) (octets : AreOctets mets) where
+  module _ (Carries : Relation) (leases : AreBased Carries) (items : ItemsAreBased) (fit : AreManaged managed) (others : AreSharedWithOthers managed)
+      (octets : AreOctets mets) where
     record Both (iface : Iface) : Type 0 where
       other : Other iface
       leased : Of Carries leases.carried iface
@@ -245,7 +249,8 @@ module _ (managed : List Managed) (specs : List IfSpec) (opening : OpeningMet) (
 
     -- leases apart from those that were kept
     grouped : (site : Site) (net : Net)
-        → StaticBasis site net shown ⊎ (StrongBasis site net shown ⊎ (LeaseRests site net (now_in shown) shown ⊎ AddressRests site net shown)) → StrongestBasis site net shown
+        → StaticBasis site net shown ⊎ (StrongBasis site net shown ⊎ (LeaseRests site net (now_in shown) shown ⊎ AddressRests site net shown))
+        → StrongestBasis site net shown
     grouped site net (inl line) = inl line
     grouped site net (inr (inl choice)) = inr (inl choice)
     grouped site net (inr (inr (inl (inl granted)))) = inr (inr (inl granted))
@@ -263,8 +268,11 @@ module _ (managed : List Managed) (specs : List IfSpec) (opening : OpeningMet) (
         let site : Site = site_in life.client.own g.iface in
         let heard : HearsOctets shown = shown_octets mets (opening_entry opening ∷ []) (none_octets, tt) octets in
         let fits_duid : IsDuid duid = duid_fits managed g.iface.managed (duid_read opening.calls) g.is_such.other.among fit in
-        let same_own : life.client.own ≡ map (λ spec. spec.mac) specs = own_stays managed mets opening.life is.turns ∙ opened_own managed specs opening is.opens in
-        let gives = iface_basis index net (λ n. LeaseRests site n (now_in shown) shown) (λ n. AddressRests site n shown) life.client.own (start (number_of g.iface.managed)) found _
+        let same_own : life.client.own ≡ map (λ spec. spec.mac) specs =
+        own_stays managed mets opening.life is.turns ∙ opened_own managed specs opening is.opens in
+        let gives =
+        iface_basis index net (λ n. LeaseRests site n (now_in shown) shown) (λ n. AddressRests site n shown) life.client.own
+        (start (number_of g.iface.managed)) found _
         g.iface shown g.is_such.other.keeps.carries (leases.based site _ g.iface shown refl g.is_such.fits fits_duid heard g.is_such.leased.carries)
         (λ lease ia item held among among_items address.
         subst (λ (own : List Mac). AddressRests (site_in own g.iface) (Family.V6 item.net) shown) (sym same_own)

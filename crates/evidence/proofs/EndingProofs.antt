@@ -31,7 +31,8 @@ same_index : (i : ℕ) → (i == i) ≡ true
 same_index i = eq-eqb i i refl
 
 -- what a turn that tells nothing of the carrier leaves
-untold : (site : Site) (before : Bool) (event : Event) → ((up : Bool) → event ≢ Carrier (index_at site) up) → carrier_after (index_at site) event before ≡ before
+untold : (site : Site) (before : Bool) (event : Event) → ((up : Bool) → event ≢ Carrier (index_at site) up)
+    → carrier_after (index_at site) event before ≡ before
 untold site before (Carrier other up) lacks =
     split (index_at site == other) (λ same. absurd (lacks up (ap (λ (i : ℕ). Carrier i up) (sym (eqb-true (index_at site) other same)))))
     (λ unlike. rw unlike refl)

@@ -67,7 +67,8 @@ module _ (Carries : Relation) (leases : AreBased Carries) (items : ItemsAreBased
   both true b p q = q
   both false b p q = cc
 
-  rest : (specs : List IfSpec) (world : World) (turns : List Given) (after : Running) → AreManaged managed → AreSharedWithOthers managed → AreNumbered managed → AreNamedApart managed
+  rest : (specs : List IfSpec) (world : World) (turns : List Given) (after : Running) → AreManaged managed → AreSharedWithOthers managed → AreNumbered managed
+      → AreNamedApart managed
       → AllByRecursion (λ (g : Given). AreBytes g.bytes) turns
       → running_after managed turns (running_opened managed specs world) ≡ after
       → managed_rows managed after.world.host.told.rows ≡ rows_of after.life.client
@@ -81,7 +82,8 @@ module _ (Carries : Relation) (leases : AreBased Carries) (items : ItemsAreBased
       let same : after.life ≡ life_after first.life (mets_of managed first turns) =
       sym (ap (λ (running : Running). running.life) reached) ∙ life_met managed turns first in
       have_basis Carries leases items managed specs (opening_of managed specs world) (mets_of managed first turns)
-      (record { numbered = numbered; named = named; opens = is_opening managed specs world; turns = are_made managed turns first }) fit others (mets_octets managed turns first octets) index net
+      (record { numbered = numbered; named = named; opens = is_opening managed specs world; turns = are_made managed turns first }) fit others
+      (mets_octets managed turns first octets) index net
       (subst (λ (life : Life). has_row (rows_of life.client) (Addr index net) ≡ true) same wanted)
 
 pub opening_rests : (Carries : Relation) → AreBased Carries → ItemsAreBased → OpeningRests
@@ -91,6 +93,7 @@ opening_rests Carries leases items managed specs world fit shares others numbere
 
 pub turns_rest : (Carries : Relation) → AreBased Carries → ItemsAreBased → TurnsRest
 turns_rest Carries leases items managed specs world earlier given fit shares others numbered named octets in_order none =
-    rest Carries leases items managed specs world (earlier ++ given ∷ []) (running_turned managed (life_run managed specs world earlier) given) fit others numbered named octets
+    rest Carries leases items managed specs world (earlier ++ given ∷ [])
+    (running_turned managed (life_run managed specs world earlier) given) fit others numbered named octets
     (one_more managed earlier (running_opened managed specs world) given)
     (turn_in_life managed specs world shares in_order earlier given none).as_wanted

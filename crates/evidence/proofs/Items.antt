@@ -65,7 +65,8 @@ module _ (managed : List Managed) (specs : List IfSpec) (opening : OpeningMet) (
 
   all_have : AllByRecursion (ItemsHave managed specs opening mets) life.client.ifaces
   all_have =
-      all_both Lives (λ iface. FitsManaged iface.managed × Contains managed iface.managed) (ItemsHave managed specs opening mets) one_has life.client.ifaces lived.kept
+      all_both Lives (λ iface. FitsManaged iface.managed × Contains managed iface.managed)
+      (ItemsHave managed specs opening mets) one_has life.client.ifaces lived.kept
       (all_both _ _ _ (λ iface f c. (f, c)) life.client.ifaces (each_managed FitsManaged life.client.ifaces managed lived.of_managed fit)
       (among managed specs opening mets is))
 

@@ -99,7 +99,8 @@ if_dhcp6 f turned = if runs_dhcp6 f.managed.conf then dhcp6_step f turned else s
 
 if_silent6 : (mac : Mac) (f : Iface) (turned : Turned6) → AllByRecursion (AnnouncesNone mac) (if_dhcp6 f turned).said
 if_silent6 mac f turned =
-    gated (λ (step : IfaceStep). AllByRecursion (AnnouncesNone mac) step.said) (runs_dhcp6 f.managed.conf) (dhcp6_step f turned) (silent f) (silent6 mac f turned.out) tt
+    gated (λ (step : IfaceStep). AllByRecursion (AnnouncesNone mac) step.said) (runs_dhcp6 f.managed.conf) (dhcp6_step f turned) (silent f)
+    (silent6 mac f turned.out) tt
 
 -- its steps are nothing to what is carried
 then6_keeps : (site : Site) (clean : Type 0) (turns : List Entry) (f : Iface) (turned : Turned6) → Keeps site clean f turns
@@ -201,7 +202,8 @@ module _ (site : Site) (clean : Type 0) (at salt : ℕ) (early : at < 10 ^ 15) (
     sane = step_sane site at f step goes b.sane;
     stopped = b.stopped;
     carrier = b.carrier;
-    bears = more_amid (Undisturbed site) site clean (entry at event bytes offers) past salt said (said_in step) local_then (step_unsaid site at f step goes b.sane)
+    bears =
+        more_amid (Undisturbed site) site clean (entry at event bytes offers) past salt said (said_in step) local_then (step_unsaid site at f step goes b.sane)
         (followed_has (λ s. BearsAmid (Undisturbed site) site clean (entry at event bytes offers) said past s) tt (λ due waits fallback. tt)
         f.managed.conf at (holds_lease f) step.news f.local.iface f.local.state b.bears);
   }
@@ -216,7 +218,8 @@ module _ (site : Site) (clean : Type 0) (at salt : ℕ) (early : at < 10 ^ 15) (
     sane = b.sane;
     stopped = b.stopped;
     carrier = b.carrier;
-    bears = more_amid (Undisturbed site) site clean (entry at event bytes offers) past salt said more f.local.state (unsaid6 site f.local.state more none) b.bears;
+    bears =
+        more_amid (Undisturbed site) site clean (entry at event bytes offers) past salt said more f.local.state (unsaid6 site f.local.state more none) b.bears;
   }
 
   -- ---- a step of DHCPv6 amid the turn
@@ -224,7 +227,8 @@ module _ (site : Site) (clean : Type 0) (at salt : ℕ) (early : at < 10 ^ 15) (
   dhcp6_amid : (event : Event) (said : List Said) (f : Iface) (turned : Turned6) → (f.dhcp6.state ≡ client6.Off → IsOff turned) → Before event said f
       → Before event (said ++ said6_in f turned.out) (dhcp6_step f turned).iface
   dhcp6_amid event said f turned stays b =
-      let more : Before event (said ++ said6_in f turned.out) f = more_said event said (said6_in f turned.out) f (silent6 site.managed.spec.mac f turned.out) b in
+      let more : Before event (said ++ said6_in f turned.out) f =
+      more_said event said (said6_in f turned.out) f (silent6 site.managed.spec.mac f turned.out) b in
       record { sane = dhcp6_sane site.managed f turned stays b.sane; stopped = b.stopped; carrier = b.carrier; bears = more.bears }
 
   -- nothing more comes of the input
@@ -265,11 +269,13 @@ module _ (site : Site) (clean : Type 0) (at salt : ℕ) (early : at < 10 ^ 15) (
         sane = sane;
         stopped = k.stopped;
         carrier = k.carrier;
-        bears = armed_has (λ s. Bears (Undisturbed site) site clean s turns) tt (λ due waits fallback. tt) f.managed.conf at f.local.iface f.local.state k.bears;
+        bears =
+            armed_has (λ s. Bears (Undisturbed site) site clean s turns) tt (λ due waits fallback. tt) f.managed.conf at f.local.iface f.local.state k.bears;
       }
 
   -- or where a client begins, which is bound to none
-  begin_local_keeps : (turns : List Entry) (f : Iface) → is_on f ≡ true → is_bound f.dhcp4.state ≡ false → Keeps site clean f turns → Keeps site clean (begin_local at f).iface turns
+  begin_local_keeps : (turns : List Entry) (f : Iface) → is_on f ≡ true → is_bound f.dhcp4.state ≡ false → Keeps site clean f turns
+      → Keeps site clean (begin_local at f).iface turns
   begin_local_keeps turns f on unbound k = record {
     sane = begin_local_sane site.managed at f on unbound k.sane;
     stopped = k.stopped;
@@ -304,7 +310,8 @@ module _ (site : Site) (clean : Type 0) (at salt : ℕ) (early : at < 10 ^ 15) (
       then6_keeps site clean (entry at event bytes offers ∷ past) second (turned second)
       (arms_keeps (entry at event bytes offers ∷ past) first.iface (on_when first.iface up_then going_then)
       (passed_keeps event ((said ++ first.said) ++ six) first.iface going_then (subst (λ (u : Bool). Passes event u) (sym up_then) passes)
-      (more_said event (said ++ first.said) six first.iface (if_silent6 site.managed.spec.mac second (turned second)) (perhaps_amid event said runs f step goes b))
+      (more_said event (said ++ first.said) six first.iface (if_silent6 site.managed.spec.mac second (turned second))
+      (perhaps_amid event said runs f step goes b))
       (armed_said said first.said six first.iface (holds_lease first.iface) h)))
 
   -- ---- frames
@@ -315,7 +322,8 @@ module _ (site : Site) (clean : Type 0) (at salt : ℕ) (early : at < 10 ^ 15) (
     sane = local_sane site.managed f (ll_hears site.own f.local arp at salt) (hear_off site.own f.local.iface f.local.state arp at salt) b.sane;
     stopped = b.stopped;
     carrier = b.carrier;
-    bears = heard_bears (Undisturbed site) site clean (entry at (Frame index len) bytes offers) past salt f.local.iface f.local.state said arp b.bears tt heard h;
+    bears =
+        heard_bears (Undisturbed site) site clean (entry at (Frame index len) bytes offers) past salt f.local.iface f.local.state said arp b.bears tt heard h;
   }
 
   packet_keeps : (index len : ℕ) (said : List Said) (f : Iface) (arp : ArpView) → Before (Frame index len) said f
@@ -368,7 +376,8 @@ module _ (site : Site) (clean : Type 0) (at salt : ℕ) (early : at < 10 ^ 15) (
       → Before (Carrier index true) said f → AfterInput (Carrier index true) said (carrier_comes at salt f)
   comes_keeps index said f here going down b h =
       then6_keeps site clean turns second (carrier_turned carrier6.Up at salt second.dhcp6)
-      (begin_local_keeps turns first.iface (on_when first.iface (perhaps_up (runs_dhcp4 f.managed.conf) lit step) (perhaps_stopped (runs_dhcp4 f.managed.conf) lit step ∙ going))
+      (begin_local_keeps turns first.iface
+      (on_when first.iface (perhaps_up (runs_dhcp4 f.managed.conf) lit step) (perhaps_stopped (runs_dhcp4 f.managed.conf) lit step ∙ going))
       (unbound (runs_dhcp4 f.managed.conf)) (begun (runs_dhcp4 f.managed.conf) refl))
     where
       turns : List Entry
@@ -461,7 +470,8 @@ module _ (site : Site) (clean : Type 0) (at salt : ℕ) (early : at < 10 ^ 15) (
   rebind_keeps : (index : ℕ) (up : Bool) (said : List Said) (f : Iface) → f.stopped ≡ false → f.up ≡ up → Before (Rebind index) said f
       → AfterInput (Rebind index) said (if up then machines_rebind at salt f else silent f)
   rebind_keeps index true said f going up b =
-      armed_keeps (Rebind index) said (runs_dhcp4 f.managed.conf) f (rebind_step at salt f.dhcp4) (λ g. rebind_turned at salt g.dhcp6) going up (quietly (Rebind index) true refl refl tt refl)
+      armed_keeps (Rebind index) said (runs_dhcp4 f.managed.conf) f (rebind_step at salt f.dhcp4) (λ g. rebind_turned at salt g.dhcp6) going up
+      (quietly (Rebind index) true refl refl tt refl)
       (rebind_goes site.managed f b.sane at salt early (on_when f up going)) b
   rebind_keeps index false said f going down b = passed_keeps (Rebind index) said f going (quietly (Rebind index) f.up refl refl tt refl) b
 
@@ -488,12 +498,15 @@ module _ (site : Site) (clean : Type 0) (at salt : ℕ) (early : at < 10 ^ 15) (
       → AfterInput event said (taken site.own at salt event bytes f)
   running_keeps (Frame index len) said f going b =
       split (index_of f == index)
-      (λ here. rw here (frame_keeps index len said f (arp_heard bytes) (heard4_in f.managed.spec.mac bytes) (heard6_in f.managed.spec.mac bytes) going b (rw (mine f index b.sane.same here) refl)))
+      (λ here. rw here
+      (frame_keeps index len said f (arp_heard bytes) (heard4_in f.managed.spec.mac bytes) (heard6_in f.managed.spec.mac bytes) going b
+      (rw (mine f index b.sane.same here) refl)))
       (λ elsewhere. rw elsewhere (passed_keeps (Frame index len) said f going (no_packet index len f.up (rw (mine f index b.sane.same elsewhere) refl)) b))
   running_keeps (Carrier index to) said f going b =
       split (index_of f == index)
       (λ here. rw here (carried_keeps index to said f (mine f index b.sane.same here) going b))
-      (λ elsewhere. rw elsewhere (passed_keeps (Carrier index to) said f going (quietly (Carrier index to) f.up refl (rw (mine f index b.sane.same elsewhere) refl)
+      (λ elsewhere. rw elsewhere
+      (passed_keeps (Carrier index to) said f going (quietly (Carrier index to) f.up refl (rw (mine f index b.sane.same elsewhere) refl)
       (λ same up. absurd (apart _ _ (mine f index b.sane.same elsewhere) same)) refl) b))
   running_keeps (Duplicate index addr) said f going b =
       split (index_of f == index)
@@ -613,7 +626,8 @@ pub opens_keeps : (own : List Mac) (clean : Type 0) (at salt : ℕ) → at < 10 
     → Keeps (at_site own up b) clean (carrier_at_opening up at salt (resting b)).iface (entry at Quiet [] offers ∷ [])
 opens_keeps own clean at salt early offers b within true =
     then6_keeps site clean turns second (carrier_turned carrier6.Up at salt second.dhcp6)
-    (begin_local_keeps site clean at salt early [] offers [] turns first.iface (on_first (runs_dhcp4 m.conf)) (unbound (runs_dhcp4 m.conf)) (begun (runs_dhcp4 m.conf) refl))
+    (begin_local_keeps site clean at salt early [] offers [] turns first.iface (on_first (runs_dhcp4 m.conf)) (unbound (runs_dhcp4 m.conf))
+    (begun (runs_dhcp4 m.conf) refl))
   where
     m : Managed
     m = b.managed

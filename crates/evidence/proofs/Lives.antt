@@ -125,7 +125,8 @@ module _ (Counted : Type 0) where
       let met : Met = record { turn = record { at = e.moment; salt = salt; unsent = unsent; event = e.event; bytes = e.bytes }; offers = e.offers } in
       let step : IfaceStep = turned_by site salt unsent e f in
       let said : IsSaid site e step = frames_said site.managed.spec (ask_of site.duid site.managed) clean step.said (offers_at site e) shows.offered in
-      let number_is : l.b.managed.spec.index.number ≡ index_of f = ap (λ (s : Site). s.managed.spec.index.number) l.site_is ∙ ap (λ (m : Managed). m.spec.index.number) (sym same) in
+      let number_is : l.b.managed.spec.index.number ≡ index_of f =
+      ap (λ (s : Site). s.managed.spec.index.number) l.site_is ∙ ap (λ (m : Managed). m.spec.index.number) (sym same) in
       let bit : is_in unsent (index_of f) ≡ failed_last site past = same_failed (is_in unsent (index_of f)) (failed_last site past) l.fine l.failed in
       record {
         b = l.b;
@@ -154,7 +155,8 @@ module _ (Counted : Type 0) where
 -- ---- its items
 
 module _ (site : Site) (clean : Type 0) (f : Iface) (past : List Entry) (l : LivedSo site clean f past) where
-  item_basis : (lease : Lease6Content) (ia : IaLeaseContent) (item : Item6) → dhcp6.held_of f.dhcp6 ≡ Some lease → Contains lease.ias ia → Contains ia.items item
+  item_basis : (lease : Lease6Content) (ia : IaLeaseContent) (item : Item6) → dhcp6.held_of f.dhcp6 ≡ Some lease → Contains lease.ias ia
+      → Contains ia.items item
       → ItemHasBasis site ia item past
   item_basis lease ia item held among among_items =
       subst (λ (s : Site). ItemHasBasis s ia item past) l.site_is

@@ -121,7 +121,8 @@ module _ (index : IfIndex) (net : Net) where
   neither true b p q = absurd cc
   neither false b p q = q
 
-  no_routes : (outlet : Outlet) (address : Net4) (routes : List ClasslessRoute) → has_row (flat_map (classless_rows outlet address) routes) (Addr index net) ≡ false
+  no_routes : (outlet : Outlet) (address : Net4) (routes : List ClasslessRoute)
+      → has_row (flat_map (classless_rows outlet address) routes) (Addr index net) ≡ false
   no_routes outlet address [] = refl
   no_routes outlet address (route ∷ routes) =
       list_any-append (is_at (row_cmp (Addr index net))) (classless_rows outlet address route) (flat_map (classless_rows outlet address) routes)
@@ -143,7 +144,8 @@ module _ (index : IfIndex) (net : Net) where
       row_cmp_exact (Addr index net) (Addr outlet.iface address) ((Equal-is (row_cmp (Addr index net) (Addr outlet.iface address))).0 (or_none _ _ none has))
 
   -- so with its network
-  of_address : (outlet : Outlet) (address : Net4) → has_row (address_rows outlet address) (Addr index net) ≡ true → Addr index net ≡ Addr outlet.iface (Family.V4 address)
+  of_address : (outlet : Outlet) (address : Net4) → has_row (address_rows outlet address) (Addr index net) ≡ true
+      → Addr index net ≡ Addr outlet.iface (Family.V4 address)
   of_address outlet address has =
       of_first outlet (Family.V4 address) (network_routes outlet address)
       (no_network (nat_lt address.len 32) outlet.iface (Family.V4 (network_of address)) outlet.metric) has
@@ -155,7 +157,8 @@ module _ (index : IfIndex) (net : Net) where
     pub is_static : static ≡ Some address
     pub same : Addr index net ≡ Addr outlet.iface (Family.V4 address)
 
-  pub of_static : (outlet : Outlet) (in_force : Bool) (static : Option Net4) (router : Option Ip4) → has_row (static_rows outlet in_force static router) (Addr index net) ≡ true
+  pub of_static : (outlet : Outlet) (in_force : Bool) (static : Option Net4) (router : Option Ip4)
+      → has_row (static_rows outlet in_force static router) (Addr index net) ≡ true
       → (in_force ≡ true) × OfStatic outlet static
   of_static outlet false static router has = cc
   of_static outlet true None router has = cc
@@ -193,7 +196,8 @@ module _ (index : IfIndex) (net : Net) where
     is_held : held ≡ Some lease
     same : Addr index net ≡ Addr outlet.iface (Family.V4 lease.net)
 
-  of_lease : (outlet : Outlet) (router : Option Ip4) (held : Option LeaseContent) → has_row (lease_rows outlet router held) (Addr index net) ≡ true → OfLease outlet held
+  of_lease : (outlet : Outlet) (router : Option Ip4) (held : Option LeaseContent) → has_row (lease_rows outlet router held) (Addr index net) ≡ true
+      → OfLease outlet held
   of_lease outlet router None has = cc
   of_lease outlet router (Some lease) has =
       let classless : Option (List ClasslessRoute) = classless_in lease.values in

@@ -39,7 +39,8 @@ no_prefix kind address prefix = cc
 pub needs_delegation : NeedsDelegation
 needs_delegation site index net past all basis =
     no_prefix basis.ask.kind
-    (contained (λ (ask : IaAsk). ask.kind ≡ Na) (map ask_for site.managed.conf.dhcp6.ias) basis.ask (all_asked site.managed.conf.dhcp6.ias all) basis.asked) basis.is_prefix
+    (contained (λ (ask : IaAsk). ask.kind ≡ Na) (map ask_for site.managed.conf.dhcp6.ias) basis.ask (all_asked site.managed.conf.dhcp6.ias all) basis.asked)
+    basis.is_prefix
 
 pub needs_prefix : NeedsPrefix
 needs_prefix site index net past none basis = none basis.ask basis.prefix basis.asked basis.is_prefix basis.basis

@@ -65,10 +65,12 @@ module _ (managed : List Managed) (specs : List IfSpec) (opening : OpeningMet) (
   abbrev begun : Beginning → Iface
   begun b = (opened opening.begin.up (moment_of opening.begin.at) opening.begin.salt b).iface
 
-  one_starts : (b : Beginning) → b.managed.conf.persistent ≡ false → iface_rows (begun b) ≡ configured_rows (begun b).managed (is_up opening.begin.up (begun b).managed.spec.index.number)
+  one_starts : (b : Beginning) → b.managed.conf.persistent ≡ false
+      → iface_rows (begun b) ≡ configured_rows (begun b).managed (is_up opening.begin.up (begun b).managed.spec.index.number)
   one_starts b off =
       begins_with_static_rows b (record { up = opening.begin.up; at = moment_of opening.begin.at; salt = opening.begin.salt; offers = [] }) off
-      ∙ ap (λ (m : Managed). configured_rows m (is_up opening.begin.up m.spec.index.number)) (sym (opened_is_same opening.begin.up (moment_of opening.begin.at) opening.begin.salt b).managed)
+      ∙ ap (λ (m : Managed). configured_rows m (is_up opening.begin.up m.spec.index.number))
+      (sym (opened_is_same opening.begin.up (moment_of opening.begin.at) opening.begin.salt b).managed)
 
   each_starts : (beginnings : List Beginning) → AllByRecursion (λ (b : Beginning). b.managed.conf.persistent ≡ false) beginnings
       → AllByRecursion (λ (iface : Iface). iface_rows iface ≡ configured_rows iface.managed (is_up opening.begin.up iface.managed.spec.index.number))
@@ -96,15 +98,19 @@ module _ (managed : List Managed) (specs : List IfSpec) (opening : OpeningMet) (
       (λ (iface : Iface). iface_rows iface ≡ configured_rows iface.managed (is_up opening.begin.up iface.managed.spec.index.number)) Starts
       (λ iface a r. record { among = a; rows = r }) opening.life.client.ifaces
       (each_managed (Contains managed) opening.life.client.ifaces managed same (recursion_from_All (Contains managed) managed (All-contains_itself managed)))
-      (subst (λ (c : Client). AllByRecursion (λ (iface : Iface). iface_rows iface ≡ configured_rows iface.managed (is_up opening.begin.up iface.managed.spec.index.number)) c.ifaces)
+      (subst
+      (λ (c : Client). AllByRecursion
+      (λ (iface : Iface). iface_rows iface ≡ configured_rows iface.managed (is_up opening.begin.up iface.managed.spec.index.number)) c.ifaces)
       (sym client) (each_starts (beginnings_of managed read.files) each_plain))
 
-  wants_static : (index : IfIndex) (net : Net) → has_row (rows_of opening.life.client) (Addr index net) ≡ true → HasBasisOf StaticBasis managed specs opening [] index net
+  wants_static : (index : IfIndex) (net : Net) → has_row (rows_of opening.life.client) (Addr index net) ≡ true
+      → HasBasisOf StaticBasis managed specs opening [] index net
   wants_static index net has =
       let g : Giver Starts (Addr index net) = wanted_giver Starts (Addr index net) opening.life.client all_start has in
       let m : Managed = g.iface.managed in
       let up : Bool = is_up opening.begin.up m.spec.index.number in
-      let rows : has_row (configured_rows m up) (Addr index net) ≡ true = subst (λ (rows : List HostRow). has_row rows (Addr index net) ≡ true) g.is_such.rows g.gives in
+      let rows : has_row (configured_rows m up) (Addr index net) ≡ true =
+      subst (λ (rows : List HostRow). has_row rows (Addr index net) ≡ true) g.is_such.rows g.gives in
       elim (in_either (Addr index net) (static_rows (outlet_of m) up m.conf.address m.conf.router) (static6_rows (outlet_of m) up m.conf.address6) rows) [
         | inl here ↦
             let s = of_static index net (outlet_of m) up m.conf.address m.conf.router here in
@@ -113,7 +119,13 @@ module _ (managed : List Managed) (specs : List IfSpec) (opening : OpeningMet) (
               among = g.is_such.among;
               is_here = same_index index net m.spec.index (Family.V4 s.1.address) s.1.same;
               basis = record {
-                is_static = inl (record { address = s.1.address; configured = s.1.is_static; gives = same_net index net m.spec.index (Family.V4 s.1.address) s.1.same });
+                is_static =
+                    inl
+                    (record {
+                      address = s.1.address;
+                      configured = s.1.is_static;
+                      gives = same_net index net m.spec.index (Family.V4 s.1.address) s.1.same;
+                    });
                 up = s.0;
                 running = refl;
               };
@@ -125,7 +137,13 @@ module _ (managed : List Managed) (specs : List IfSpec) (opening : OpeningMet) (
               among = g.is_such.among;
               is_here = same_index index net m.spec.index (Family.V6 s.1.address) s.1.same;
               basis = record {
-                is_static = inr (record { address = s.1.address; configured = s.1.is_static; gives = same_net index net m.spec.index (Family.V6 s.1.address) s.1.same });
+                is_static =
+                    inr
+                    (record {
+                      address = s.1.address;
+                      configured = s.1.is_static;
+                      gives = same_net index net m.spec.index (Family.V6 s.1.address) s.1.same;
+                    });
                 up = s.0;
                 running = refl;
               };
@@ -174,7 +192,8 @@ module _ (site : Site) (net : Net) (e : Entry) (quiet : e.event ≡ Quiet) where
   no_lease basis = needs_frame_here site net e.moment (e ∷ []) (λ len frame. no_frame (index_at site) len (sym quiet ∙ frame), tt) basis
 
   not_named : (ask : IaAsk) (item : Net6) → Names site ask item e [] → ⊥
-  not_named ask item named = none (sym (ap (λ (event : Event). option_map (λ (heard : HeardMessage6). heard.message) (message6_on site event e.bytes)) quiet) ∙ named.good.came)
+  not_named ask item named =
+      none (sym (ap (λ (event : Event). option_map (λ (heard : HeardMessage6). heard.message) (message6_on site event e.bytes)) quiet) ∙ named.good.came)
     where
       none : None ≡ Some named.message → ⊥
       none h = cc
@@ -211,7 +230,8 @@ opening_starts managed specs opening is fit others numbered named index net has 
           asked = share.basis.asked;
           is_prefix = share.basis.is_prefix;
           prefix = share.basis.prefix;
-          basis = item_kept (site_of managed specs opening share.upstream) net (opening_entry opening) refl share.basis.ask share.basis.prefix share.basis.basis;
+          basis =
+              item_kept (site_of managed specs opening share.upstream) net (opening_entry opening) refl share.basis.ask share.basis.prefix share.basis.basis;
           share = share.basis.share;
           configured = share.basis.configured;
           of_the_prefixes = share.basis.of_the_prefixes;

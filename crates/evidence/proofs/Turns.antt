@@ -104,18 +104,21 @@ module _ (Counted : Type 0) (Carries : Relation) (carried : IsCarried Counted Ca
     one_kept early iface offers kept =
         let step : IfaceStep = step_for iface in
         let same : IsSame iface step.iface = turned_is_same life.client.own (input_of life met.wake met.bytes) iface in
-        let settings : step.iface.dhcp4.settings ≡ settings_of found.duid step.iface.managed = same.settings ∙ kept.settings ∙ ap (settings_of found.duid) (sym same.managed) in
+        let settings : step.iface.dhcp4.settings ≡ settings_of found.duid step.iface.managed =
+        same.settings ∙ kept.settings ∙ ap (settings_of found.duid) (sym same.managed) in
         record {
           settings = settings;
           carries = subst (λ m. OfferedFor step m (ask_of found.duid m)
               → Carries (site_by life.client.own (start (number_of m)) found m) (is_in failed (number_of m) ≡ false) step.iface (turn_entry ∷ shown))
               (sym same.managed)
-              (λ shows. carried.turns (site_by life.client.own (start (number_of iface.managed)) found iface.managed) (is_in failed (index_of iface) ≡ false) met.wake.salt
+              (λ shows. carried.turns (site_by life.client.own (start (number_of iface.managed)) found iface.managed)
+              (is_in failed (index_of iface) ≡ false) met.wake.salt
               turn_entry early shown life.unsent iface refl kept.carries (record { offered = shows.0; refused = shows.1 }))
               (subst (λ (a : AskContent). OfferedFor step step.iface.managed a) (ap (λ (set : SettingsContent). set.ask) settings) offers);
         }
 
-    each_shown : (steps : List IfaceStep) → AllByRecursion (ShownBy Counted (step_of life met.wake met.bytes).sends taken) steps → AllByRecursion OfferedBy steps
+    each_shown : (steps : List IfaceStep) → AllByRecursion (ShownBy Counted (step_of life met.wake met.bytes).sends taken) steps
+        → AllByRecursion OfferedBy steps
     each_shown [] shows = tt
     each_shown (step ∷ steps) shows = ((shows.0.offered, shows.0.refused), each_shown steps shows.1)
 
@@ -133,7 +136,8 @@ module _ (Counted : Type 0) (Carries : Relation) (carried : IsCarried Counted Ca
   still_early : (life : Life) (at now : ℕ) → life.now < 10 ^ 15 → now ≡ max life.now (moment_of at) → now < 10 ^ 15
   still_early life at now early e = omega arith
 
-  turned_kept : (managed : List Managed) → AreNumbered managed → (Counted → AreCounted managed) → (life : Life) (met : Met) (shown : List Entry) → KeptAfter managed life shown
+  turned_kept : (managed : List Managed) → AreNumbered managed → (Counted → AreCounted managed) → (life : Life) (met : Met) (shown : List Entry)
+      → KeptAfter managed life shown
       → Shown (step_of life met.wake met.bytes) (turn_moment life met.wake) met.calls met.life → KeptAfter managed met.life (entry_of met ∷ shown)
   turned_kept managed numbered counts life met shown k made =
       let same : managed_in (step_of life met.wake met.bytes).client.ifaces ≡ managed =
@@ -166,7 +170,8 @@ own_stays managed (met ∷ mets) life made =
 
 -- ---- the opening
 
-module _ (Counted : Type 0) (Carries : Relation) (carried : IsCarried Counted Carries) (own : List Mac) (up at salt unsent : ℕ) (early : at < 10 ^ 15) (offers : List Offer)
+module _ (Counted : Type 0) (Carries : Relation) (carried : IsCarried Counted Carries) (own : List Mac) (up at salt unsent : ℕ) (early : at < 10 ^ 15)
+    (offers : List Offer)
     (found : Found) where
   abbrev started : ℕ → Bool
   started index = is_up up index
@@ -203,9 +208,13 @@ module _ (Counted : Type 0) (Carries : Relation) (carried : IsCarried Counted Ca
             (sym same.managed)
             (subst (λ (d : List ℕ). OpenedFor step m (ask_of d m)
             → Carries (site_with own (started (number_of m)) d (found.kept4 m) (found.kept6 m) m) clean step.iface (opening_shown ∷ [])) within.duid_is
-            (λ given. subst (λ (k : Option LeaseContent). Carries (site_with own (started (number_of m)) b.duid k (found.kept6 m) m) clean step.iface (opening_shown ∷ [])) so.four
-            (subst (λ (k : Option Lease6Content). Carries (site_with own (started (number_of m)) b.duid b.kept4 k m) clean step.iface (opening_shown ∷ [])) so.six
-            (carried.opens own clean at salt early offers b within.kept4 within.kept6 (started (number_of m)) (record { offered = given.0; refused = given.1 })))))
+            (λ given. subst
+            (λ (k : Option LeaseContent). Carries (site_with own (started (number_of m)) b.duid k (found.kept6 m) m) clean step.iface (opening_shown ∷ []))
+            so.four
+            (subst
+            (λ (k : Option Lease6Content). Carries (site_with own (started (number_of m)) b.duid b.kept4 k m) clean step.iface (opening_shown ∷ [])) so.six
+            (carried.opens own clean at salt early offers b within.kept4 within.kept6 (started (number_of m))
+            (record { offered = given.0; refused = given.1 })))))
             (subst (λ (a : AskContent). OpenedFor step step.iface.managed a) (ap (λ (set : SettingsContent). set.ask) settings) shows);
       }
 
@@ -213,27 +222,37 @@ module _ (Counted : Type 0) (Carries : Relation) (carried : IsCarried Counted Ca
       → AllByRecursion (ShownBy Counted sends taken) steps → AllByRecursion OpenedBy steps
   given_each sends taken set list [] shows = tt
   given_each sends taken set list (step ∷ steps) shows = (
-    subst (λ (u : ℕ). Offered step.iface.managed.spec step.iface.dhcp4.settings.ask (is_in u (number_of step.iface.managed) ≡ false) step.said (offers_on (number_of step.iface.managed) offers)
+    subst
+        (λ (u : ℕ). Offered step.iface.managed.spec step.iface.dhcp4.settings.ask (is_in u (number_of step.iface.managed) ≡ false) step.said
+        (offers_on (number_of step.iface.managed) offers)
         × (Counted → (is_in u (number_of step.iface.managed) ≡ false → ⊥) → refused_among (offers_on (number_of step.iface.managed) offers) ≡ true)) (sym set)
-        (subst (λ (os : List Offer). Offered step.iface.managed.spec step.iface.dhcp4.settings.ask (is_in (marked_all sends taken 0) (number_of step.iface.managed) ≡ false) step.said
+        (subst
+        (λ (os : List Offer). Offered step.iface.managed.spec step.iface.dhcp4.settings.ask
+        (is_in (marked_all sends taken 0) (number_of step.iface.managed) ≡ false) step.said
         (offers_on (number_of step.iface.managed) os)
-        × (Counted → (is_in (marked_all sends taken 0) (number_of step.iface.managed) ≡ false → ⊥) → refused_among (offers_on (number_of step.iface.managed) os) ≡ true)) (sym list)
+        ×
+        (Counted → (is_in (marked_all sends taken 0) (number_of step.iface.managed) ≡ false → ⊥)
+        → refused_among (offers_on (number_of step.iface.managed) os) ≡ true))
+        (sym list)
         (shows.0.offered, shows.0.refused)),
     given_each sends taken set list steps shows.1,
   )
 
   each_opened : (beginnings : List Beginning) → AllByRecursion (KeepsFitting found.duid) beginnings → AllByRecursion BeginsSo beginnings
       → AllByRecursion OpenedBy (map (opened up at salt) beginnings)
-      → AllByRecursion (KeptOne Counted Carries carried started found own unsent (opening_shown ∷ [])) (map (λ (step : IfaceStep). step.iface) (map (opened up at salt) beginnings))
+      → AllByRecursion (KeptOne Counted Carries carried started found own unsent (opening_shown ∷ []))
+      (map (λ (step : IfaceStep). step.iface) (map (opened up at salt) beginnings))
   each_opened [] within so shows = tt
   each_opened (b ∷ beginnings) within so shows = (one_opened b within.0 so.0 shows.0, each_opened beginnings within.1 so.1 shows.1)
 
 first_early : (at now : ℕ) → now ≡ moment_of at → now < 10 ^ 15
 first_early at now e = omega arith
 
-pub opening_kept : (Counted : Type 0) (Carries : Relation) (carried : IsCarried Counted Carries) (managed : List Managed) → AreNumbered managed → AreNamedApart managed → (Counted → AreCounted managed) → (specs : List IfSpec) (opening : OpeningMet)
+pub opening_kept : (Counted : Type 0) (Carries : Relation) (carried : IsCarried Counted Carries) (managed : List Managed) → AreNumbered managed
+    → AreNamedApart managed → (Counted → AreCounted managed) → (specs : List IfSpec) (opening : OpeningMet)
     → IsOpening managed specs opening
-    → KeptAfter Counted Carries carried (λ index. is_up opening.begin.up index) (found_in managed opening.calls) managed opening.life (opening_entry opening ∷ [])
+    → KeptAfter Counted Carries carried (λ index. is_up opening.begin.up index) (found_in managed opening.calls) managed opening.life
+    (opening_entry opening ∷ [])
 opening_kept Counted Carries carried managed numbered apart counts specs opening is =
     let read : OpeningShown managed specs opening.begin opening.calls opening.life = opening_shows managed specs opening.begin opening.calls opening.life is in
     let step : ClientStep = opening_step managed read.files specs opening.begin in
@@ -263,7 +282,8 @@ opening_kept Counted Carries carried managed numbered apart counts specs opening
 
 pub opened_own : (managed : List Managed) (specs : List IfSpec) (opening : OpeningMet) → IsOpening managed specs opening
     → opening.life.client.own ≡ map (λ spec. spec.mac) specs
-opened_own managed specs opening is = ap (λ (client : Client). client.own) (opening_shows managed specs opening.begin opening.calls opening.life is).shown.client
+opened_own managed specs opening is =
+    ap (λ (client : Client). client.own) (opening_shows managed specs opening.begin opening.calls opening.life is).shown.client
 
 -- ---- what an interface carries of static addresses and of link-local addresses
 

@@ -1,5 +1,5 @@
--- When a static address has no basis, and when an address of IPv4 has none of any kind, told of whole lists of turns: those after a
--- turn, that turn, and those before it.
+-- When a static address has no basis, and when an address of IPv4 has none of any kind, told of whole lists of turns:
+-- those after a turn, that turn, and those before it.
 use Rattle.std.specs.Prelude.{◌≡◌, ◌≢◌, ◌<◌, Bool, true, false, List, [], ◌∷◌, ◌++◌, Some}
 use Rattle.std.specs.List.{AllByRecursion}
 use Rattle.net_types.specs.declared.address.Net.{Net}
@@ -26,7 +26,8 @@ StaticNeedsCarrier = (site : Site) (net : Net) (later : List Entry) (e : Entry) 
 
 -- nor where there was none at first
 abbrev pub StaticWaitsForCarrier : Type 0
-StaticWaitsForCarrier = (site : Site) (net : Net) (past : List Entry) → site.up ≡ false → AllByRecursion (TellsNoCarrier site) past
+StaticWaitsForCarrier =
+    (site : Site) (net : Net) (past : List Entry) → site.up ≡ false → AllByRecursion (TellsNoCarrier site) past
     → StaticBasis site net past → ⊥
 
 -- Once the daemon was told to stop none has one, whatever came then.
@@ -41,16 +42,18 @@ pub record StaticIsConfigured : Type 0 where
   pub six : (site : Site) (address : Net6) (past : List Entry) → site.managed.conf.address6 ≢ Some address
       → StaticBasis site (V6 address) past → ⊥
 
--- Once the carrier was lost no address of IPv4 has a basis of any kind, until it came again, an ACK granted the address, or it was
--- probed anew.
+-- Once the carrier was lost no address of IPv4 has a basis of any kind, until it came again, an ACK granted the
+-- address, or it was probed anew.
 abbrev pub EndsWithCarrier : Type 0
 EndsWithCarrier = (site : Site) (addr : Net4) (later : List Entry) (e : Entry) (earlier : List Entry)
-    → has_carrier site earlier ≡ true → e.event ≡ Carrier (index_at site) false → AllByRecursion (TellsNoCarrier site) later
+    → has_carrier site earlier ≡ true → e.event ≡ Carrier (index_at site) false
+    → AllByRecursion (TellsNoCarrier site) later
     → GrantedNoMore site (V4 addr) later (e ∷ earlier) → probes_taken site addr.ip (later ++ e ∷ []) < 3
     → Basis site (V4 addr) (later ++ e ∷ earlier) → ⊥
 
 -- Nor once the daemon was told to stop, until an ACK granted it or it was probed anew.
 abbrev pub EndsWithStop : Type 0
 EndsWithStop = (site : Site) (addr : Net4) (later : List Entry) (e : Entry) (earlier : List Entry)
-    → e.event ≡ Stop → GrantedNoMore site (V4 addr) later (e ∷ earlier) → probes_taken site addr.ip (later ++ e ∷ []) < 3
+    → e.event ≡ Stop → GrantedNoMore site (V4 addr) later (e ∷ earlier)
+    → probes_taken site addr.ip (later ++ e ∷ []) < 3
     → Basis site (V4 addr) (later ++ e ∷ earlier) → ⊥

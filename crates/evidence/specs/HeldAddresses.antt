@@ -1,5 +1,5 @@
--- That the addresses which the host holds have their basis, in a life over devices that tell what they hold and which of
--- their calls fail.
+-- That the addresses which the host holds have their basis, in a life over devices that tell what they hold and which
+-- of their calls fail.
 use Rattle.std.specs.Prelude.{◌≡◌, ◌⊎◌, ℕ, ◌<◌, true, false, List, [], ◌∷◌, ◌++◌, length}
 use Rattle.std.specs.List.{AllByRecursion}
 use Rattle.net_types.specs.declared.address.Net.{Net}
@@ -32,17 +32,20 @@ use Rattle.net_types.specs.declared.address.Net6.{Net6}
 abbrev pub mets_of : List Managed → Running → List Given → List Met
 mets_of managed running [] = []
 mets_of managed running (given ∷ coming) =
-    met_of given (ran_turn managed running.life running.world given) ∷ mets_of managed (running_turned managed running given) coming
+    met_of given (ran_turn managed running.life running.world given)
+    ∷ mets_of managed (running_turned managed running given) coming
 
 -- Each address among the rows of managed interfaces has its basis.
 abbrev pub RestOnEvidence : List Managed → List IfSpec → OpeningMet → List Met → List HostRow → Type 0
-RestOnEvidence managed specs opening mets rows = (index : IfIndex) (net : Net) → is_managed managed (Addr index net) ≡ true
+RestOnEvidence managed specs opening mets rows =
+    (index : IfIndex) (net : Net) → is_managed managed (Addr index net) ≡ true
     → has_row rows (Addr index net) ≡ true → HasBasis managed specs opening mets index net
 
--- At an opening each address that the client wants has a basis of this kind on its interface, or is one of a share whose
--- prefix has one of that kind.
+-- At an opening each address that the client wants has a basis of this kind on its interface, or is one of a share
+-- whose prefix has one of that kind.
 abbrev pub WantsAlone : (Kind : Site → Net → List Entry → Type 0)
-    → (Shared : Site → IaAsk → Net6 → (now : ℕ) → List Entry → Type 0) → List Managed → List IfSpec → OpeningMet → Type 0
+    → (Shared : Site → IaAsk → Net6 → (now : ℕ) → List Entry → Type 0) → List Managed → List IfSpec → OpeningMet
+    → Type 0
 WantsAlone Kind Shared managed specs opening = (index : IfIndex) (net : Net)
     → has_row (rows_of opening.life.client) (Addr index net) ≡ true
     → HasBasisOf Kind managed specs opening [] index net ⊎ HasShareBasisOf Shared managed specs opening [] index net
@@ -57,7 +60,8 @@ WantsStaticOrKept managed specs opening = WantsAlone StartBasis KeptBasis6 manag
 -- so at each opening
 abbrev pub OpeningStarts : Type 0
 OpeningStarts = (managed : List Managed) (specs : List IfSpec) (opening : OpeningMet) → IsOpening managed specs opening
-    → AreManaged managed → AreSharedWithOthers managed → AreNumbered managed → AreNamedApart managed → WantsStaticOrKept managed specs opening
+    → AreManaged managed → AreSharedWithOthers managed → AreNumbered managed → AreNamedApart managed
+    → WantsStaticOrKept managed specs opening
 
 -- At an opening each address that the client wants is a static one, of an interface that has carrier.
 abbrev pub WantsStaticAlone : List Managed → List IfSpec → OpeningMet → Type 0
@@ -73,7 +77,9 @@ PlainOpeningStarts = (managed : List Managed) (specs : List IfSpec) (opening : O
 
 -- so after an opening in which no host call failed
 abbrev pub OpeningRests : Type 0
-OpeningRests = (managed : List Managed) (specs : List IfSpec) (world : World) → AreManaged managed → SharesAreManaged managed → AreSharedWithOthers managed → AreNumbered managed
+OpeningRests =
+    (managed : List Managed) (specs : List IfSpec) (world : World) → AreManaged managed → SharesAreManaged managed
+    → AreSharedWithOthers managed → AreNumbered managed
     → AreNamedApart managed → InRowOrder world.host.told.rows
     → let after = running_opened managed specs world in
     NoneFails managed world.host.failing (rows_of after.life.client) (unknown_table world.host.told)
@@ -81,16 +87,21 @@ OpeningRests = (managed : List Managed) (specs : List IfSpec) (world : World) �
 
 -- and after each turn in which none failed
 abbrev pub TurnsRest : Type 0
-TurnsRest = (managed : List Managed) (specs : List IfSpec) (world : World) (earlier : List Given) (given : Given) → AreManaged managed → SharesAreManaged managed → AreSharedWithOthers managed
-    → AreNumbered managed → AreNamedApart managed → AllByRecursion (λ (g : Given). AreBytes g.bytes) (earlier ++ given ∷ []) → InRowOrder world.host.told.rows
+TurnsRest =
+    (managed : List Managed) (specs : List IfSpec) (world : World) (earlier : List Given) (given : Given)
+    → AreManaged managed → SharesAreManaged managed → AreSharedWithOthers managed
+    → AreNumbered managed → AreNamedApart managed
+    → AllByRecursion (λ (g : Given). AreBytes g.bytes) (earlier ++ given ∷ []) → InRowOrder world.host.told.rows
     → let before = life_run managed specs world earlier in
     let after = running_turned managed before given in
     NoneFails managed world.host.failing (rows_of after.life.client) (table_of before)
-    → RestOnEvidence managed specs (opening_of managed specs world) (mets_of managed (running_opened managed specs world) (earlier ++ given ∷ [])) after.world.host.told.rows
+    → RestOnEvidence managed specs (opening_of managed specs world)
+    (mets_of managed (running_opened managed specs world) (earlier ++ given ∷ [])) after.world.host.told.rows
 
 -- What the devices foretell is what these turns meet, as far as the life goes on, and then the turns to come.
 abbrev pub ForetoldAreMet : Type 0
-ForetoldAreMet = (managed : List Managed) (running : Running) (earlier : List Given) (given : Given) (coming : List Given)
+ForetoldAreMet =
+    (managed : List Managed) (running : Running) (earlier : List Given) (given : Given) (coming : List Given)
     → length earlier < length (told_turns managed running.life running.world (earlier ++ given ∷ coming))
     → let after = running_after managed (earlier ++ given ∷ []) running in
     told_turns managed running.life running.world (earlier ++ given ∷ coming)

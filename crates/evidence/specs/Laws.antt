@@ -63,7 +63,8 @@ StrongestBasis site net past =
 -- where neither DHCPv4 nor DHCPv6 runs the interface has no lease
 abbrev pub BasisWithoutDhcp : Site → Net → List Entry → Type 0
 BasisWithoutDhcp site net past =
-    runs_dhcp4 site.managed.conf ≡ false → runs_dhcp6 site.managed.conf ≡ false → StaticBasis site net past ⊎ LinkLocalBasis site net past
+    runs_dhcp4 site.managed.conf ≡ false → runs_dhcp6 site.managed.conf ≡ false
+    → StaticBasis site net past ⊎ LinkLocalBasis site net past
 
 -- `specs` are all interfaces of the host
 abbrev pub site_of : List Managed → List IfSpec → OpeningMet → Managed → Site
@@ -124,7 +125,8 @@ AreSharedWithOthers managed = AllByRecursion SharesWithOthers managed
 -- each turn makes the calls of a turn, one after another
 abbrev pub AreMade : List Managed → Life → List Met → Type 0
 AreMade managed from [] = Unit {0}
-AreMade managed from (met ∷ mets) = Makes (turn_asks managed from met.wake met.bytes) met.calls met.life × AreMade managed met.life mets
+AreMade managed from (met ∷ mets) =
+    Makes (turn_asks managed from met.wake met.bytes) met.calls met.life × AreMade managed met.life mets
 
 -- the frames that came in are octets
 abbrev pub AreOctets : List Met → Type 0
@@ -155,4 +157,5 @@ OthersHaveBasis = (managed : List Managed) (specs : List IfSpec) (opening : Open
 
 -- Interfaces that count from a number on have unlike numbers.
 abbrev pub CountedAreNumbered : Type 0
-CountedAreNumbered = (first : ℕ) (managed : List Managed) → CountsFrom first (map (λ m. m.spec) managed) → AreNumbered managed
+CountedAreNumbered =
+    (first : ℕ) (managed : List Managed) → CountsFrom first (map (λ m. m.spec) managed) → AreNumbered managed

@@ -1,4 +1,5 @@
--- An example: an interface without static address chooses 169.254.1.1 by itself, and another host uses the address later.
+-- An example: an interface without static address chooses 169.254.1.1 by itself, and another host uses the address
+-- later.
 use Rattle.std.specs.Prelude.{ℕ, true, List, [], ◌∷◌}
 use Rattle.net_types.specs.declared.address.Ip4.{Ip4}
 use Rattle.net_types.specs.declared.address.Mac.{Mac}
@@ -51,7 +52,17 @@ seven_given =
 -- a link that takes every frame, an empty store, a host that never tells its rows, and hooks that are never asked
 abbrev pub devices : World
 devices = record {
-  link = record { told = record { begin = record { at = 1000; salt = 0; up = 1 }; coming = seven_given; waits = 0; sends = 0; calls = [] }; failing = [] };
+  link =
+      record {
+        told = record {
+          begin = record { at = 1000; salt = 0; up = 1 };
+          coming = seven_given;
+          waits = 0;
+          sends = 0;
+          calls = [];
+        };
+        failing = [];
+      };
   host = record { told = record { rows = []; calls = [] }; failing = 1 ∷ 2 ∷ 3 ∷ 4 ∷ 5 ∷ 6 ∷ 7 ∷ 8 ∷ [] };
   store = record { told = store_holding []; failing = never_fails };
   hooks = record { told = record { polls = []; calls = [] }; failing = [] };
@@ -64,7 +75,13 @@ abbrev pub seven_turns : List Met
 seven_turns = mets_of (interface ∷ []) (running_opened (interface ∷ []) (interface.spec ∷ []) devices) seven_given
 
 abbrev shows : ℕ → Event → List ℕ → List ℕ → Entry
-shows at event bytes frame = record { moment = at; event = event; bytes = bytes; offers = record { iface = 1; bytes = frame; taken = true } ∷ [] }
+shows at event bytes frame =
+    record {
+      moment = at;
+      event = event;
+      bytes = bytes;
+      offers = record { iface = 1; bytes = frame; taken = true } ∷ [];
+    }
 
 -- what they show
 abbrev pub seven_shown : List Entry

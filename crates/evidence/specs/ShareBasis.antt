@@ -19,7 +19,8 @@ use Rattle.lease6_evidence.specs.Replies6.{asks_at}
 
 -- the interface upstream has none of the shares of its prefixes
 abbrev pub SharesWithOthers : Managed → Type 0
-SharesWithOthers upstream = AllByRecursion (λ share. share.outlet.iface ≢ upstream.spec.index) upstream.conf.dhcp6.shares
+SharesWithOthers upstream =
+    AllByRecursion (λ share. share.outlet.iface ≢ upstream.spec.index) upstream.conf.dhcp6.shares
 
 -- The interface upstream asks for prefixes, one of them has its basis of this kind now, and a share of it that is
 -- configured for the interface of this index, which is another one, has the subnet whose first address this is.

@@ -20,9 +20,12 @@ use Rattle.lease6_evidence.specs.Laws6.{Names}
 use Rattle.lease6_evidence.specs.Replies6.{asks_at}
 use Rattle.evidence.specs.ShareBasis.{ShareBasis}
 
--- Where it is so of the interface upstream and what it showed, no address has a basis as a share on the interface of this index.
+-- Where it is so of the interface upstream and what it showed, no address has a basis as a share on the interface of
+-- this index.
 abbrev pub SharesNothing : (Where : Site → IfIndex → List Entry → Type 0) → Type 0
-SharesNothing Where = (site : Site) (index : IfIndex) (net : Net) (past : List Entry) → Where site index past → ShareBasis site index net past → ⊥
+SharesNothing Where =
+    (site : Site) (index : IfIndex) (net : Net) (past : List Entry) → Where site index past
+    → ShareBasis site index net past → ⊥
 
 -- ---- the interface
 
@@ -34,11 +37,13 @@ NeedsAnotherInterface = SharesNothing (λ site index past. index ≡ site.manage
 
 -- the interface upstream asks for addresses alone
 abbrev pub NeedsDelegation : Type 0
-NeedsDelegation = SharesNothing (λ site index past. AllByRecursion (λ (ia : IaConf). ia.kind ≡ Na) site.managed.conf.dhcp6.ias)
+NeedsDelegation =
+    SharesNothing (λ site index past. AllByRecursion (λ (ia : IaConf). ia.kind ≡ Na) site.managed.conf.dhcp6.ias)
 
 -- No prefix that it asks for has its basis. So a share ends with the prefix.
 abbrev pub NeedsPrefix : Type 0
-NeedsPrefix = SharesNothing (λ site index past. (ask : IaAsk) (prefix : Net6) → Contains (asks_at site) ask → ask.kind ≡ Pd
+NeedsPrefix =
+    SharesNothing (λ site index past. (ask : IaAsk) (prefix : Net6) → Contains (asks_at site) ask → ask.kind ≡ Pd
     → ItemRests site ask prefix (now_in past) past → ⊥)
 
 -- no good Reply named a prefix, and none of the kept lease may be held
@@ -50,11 +55,15 @@ NeedsReplyWithIt = SharesNothing (λ site index past. IsPlain6 site
 
 -- none is configured for this interface
 abbrev pub NeedsShare : Type 0
-NeedsShare = SharesNothing (λ site index past. AllByRecursion (λ (share : ShareConf). share.outlet.iface ≢ index) site.managed.conf.dhcp6.shares)
+NeedsShare =
+    SharesNothing
+    (λ site index past. AllByRecursion
+    (λ (share : ShareConf). share.outlet.iface ≢ index) site.managed.conf.dhcp6.shares)
 
 -- none for this interface is of an IA that is asked for
 abbrev pub NeedsSameIa : Type 0
-NeedsSameIa = SharesNothing (λ site index past. (share : ShareConf) (ask : IaAsk) → Contains site.managed.conf.dhcp6.shares share
+NeedsSameIa =
+    SharesNothing (λ site index past. (share : ShareConf) (ask : IaAsk) → Contains site.managed.conf.dhcp6.shares share
     → share.outlet.iface ≡ index → Contains (asks_at site) ask → share.iaid ≢ ask.iaid)
 
 -- ---- the address

@@ -88,21 +88,25 @@ module _ (N : Call → Type 0) where
     if_done_each true more all answers = all answers
     if_done_each false more all answers = tt
 
-    bringing_each : (name : List ℕ) (wanted : Option (List ℕ)) (answers : Answers (bringing name wanted)) → AllByRecursion N (calls_with (bringing name wanted) answers)
+    bringing_each : (name : List ℕ) (wanted : Option (List ℕ)) (answers : Answers (bringing name wanted))
+        → AllByRecursion N (calls_with (bringing name wanted) answers)
     bringing_each name (Some bytes) answers =
         let settle : Asks Bool = Then Settle (λ settled. Done settled) in
         let rename : Asks Bool = Then (RenameAside name) (λ renamed. if_done renamed settle) in
         let sync : Asks Bool = Then (SyncAside name) (λ synced. if_done synced rename) in (
           store _ tt,
-          if_done_each answers.0 sync (λ a. (store _ tt, if_done_each a.0 rename (λ b. (store _ tt, if_done_each b.0 settle (λ c. (store _ tt, tt)) b.1)) a.1)) answers.1,
+          if_done_each answers.0 sync
+              (λ a. (store _ tt, if_done_each a.0 rename (λ b. (store _ tt, if_done_each b.0 settle (λ c. (store _ tt, tt)) b.1)) a.1)) answers.1,
         )
     bringing_each name None answers = (store _ tt, if_done_each answers.0 (Then Settle (λ settled. Done settled)) (λ a. (store _ tt, tt)) answers.1)
 
     kept_each : (wanted : Option (List ℕ)) (file : KeptFile) → Each (keeping_one wanted file)
     kept_each wanted file =
-        gated Each (is_settled file.keeps file.known wanted) (Done file) (after (bringing file.name wanted) (λ done. Done (record file { known = known_after wanted done })))
+        gated Each (is_settled file.keeps file.known wanted) (Done file)
+        (after (bringing file.name wanted) (λ done. Done (record file { known = known_after wanted done })))
         (done_each file)
-        (both_each (bringing file.name wanted) (λ done. Done (record file { known = known_after wanted done })) (by_answers (bringing file.name wanted) (bringing_each file.name wanted))
+        (both_each (bringing file.name wanted) (λ done. Done (record file { known = known_after wanted done }))
+        (by_answers (bringing file.name wanted) (bringing_each file.name wanted))
         (λ done. done_each (record file { known = known_after wanted done })))
 
     pub keeping_each : (ifaces : List Iface) (files : List KeptFile) → Each (keeping ifaces files)
@@ -110,7 +114,8 @@ module _ (N : Call → Type 0) where
     keeping_each ifaces (file ∷ files) calls result makes =
         both_each (keeping_one (wanted_in ifaces file.keeps) file) (λ first. after (keeping ifaces files) (λ rest. Done (first ∷ rest)))
         (kept_each (wanted_in ifaces file.keeps) file)
-        (λ first. both_each (keeping ifaces files) (λ rest. Done (first ∷ rest)) (keeping_each ifaces files) (λ rest. done_each (first ∷ rest))) calls result makes
+        (λ first. both_each (keeping ifaces files) (λ rest. Done (first ∷ rest)) (keeping_each ifaces files) (λ rest. done_each (first ∷ rest))) calls result
+        makes
 
   -- ---- calls to hooks, and jobs that are dropped
 
@@ -159,7 +164,8 @@ module _ (N : Call → Type 0) where
 
     one_each : (managed : Managed) → Each (loading_one managed)
     one_each managed =
-        both_each (reading_if (runs_dhcp4 managed.conf) (lease4_file managed)) (λ lease4. after (lease6_asks managed) (λ lease6. Done (loaded managed lease4 lease6)))
+        both_each (reading_if (runs_dhcp4 managed.conf) (lease4_file managed))
+        (λ lease4. after (lease6_asks managed) (λ lease6. Done (loaded managed lease4 lease6)))
         (reading_each (runs_dhcp4 managed.conf) (lease4_file managed) (read4 managed))
         (λ lease4. both_each (lease6_asks managed) (λ lease6. Done (loaded managed lease4 lease6))
         (reading_each (runs_dhcp6 managed.conf) (lease6_file managed) (read6 managed)) (λ lease6. done_each (loaded managed lease4 lease6)))

@@ -94,10 +94,12 @@ module _ (file : List ℕ) where
   offering_other [] set answers = tt
   offering_other (s ∷ sends) set answers = (tt, offering_other sends (marked set s.iface.number answers.0) answers.1)
 
-  pub acting_other : (managed : List Managed) (outlook : Outlook) (step : ClientStep) (moment : ℕ) (stop : Option ℕ) → Each IsOther (acting managed outlook step moment stop)
+  pub acting_other : (managed : List Managed) (outlook : Outlook) (step : ClientStep) (moment : ℕ) (stop : Option ℕ)
+      → Each IsOther (acting managed outlook step moment stop)
   acting_other managed outlook step moment stop =
       both_each IsOther (offering step.sends 0) _ (by_answers IsOther (offering step.sends 0) (offering_other step.sends 0))
-      (λ unsent. both_each IsOther (hosting managed (rows_of step.client) outlook.known) _ (hosting_each IsOther host_other store_other managed (rows_of step.client) outlook.known)
+      (λ unsent. both_each IsOther (hosting managed (rows_of step.client) outlook.known) _
+      (hosting_each IsOther host_other store_other managed (rows_of step.client) outlook.known)
       (λ known. both_each IsOther (hooking moment step.jobs outlook.hooks) _ (hooking_each IsOther hook_other dropped_other moment step.jobs outlook.hooks)
       (λ hooks. both_each IsOther (keeping step.client.ifaces outlook.files) _ (keeping_each IsOther host_other store_other step.client.ifaces outlook.files)
       (λ files. done_each IsOther _))))
@@ -127,7 +129,8 @@ module _ (file : List ℕ) where
   if_none true = refl
   if_none false = refl
 
-  reading_gives : (is_kept : Bool) (name : List ℕ) (calls : List Call) (read : Option Reading) → Makes (reading_if is_kept name) calls read → read_from calls ≡ if_this name read
+  reading_gives : (is_kept : Bool) (name : List ℕ) (calls : List Call) (read : Option Reading) → Makes (reading_if is_kept name) calls read
+      → read_from calls ≡ if_this name read
   reading_gives true name calls read makes =
       ap read_from makes.calls_are ∙ first_alone (if_this name (Some makes.answers.0)) ∙ sym (ap (if_this name) makes.result_is)
   reading_gives false name calls read makes =
@@ -135,7 +138,8 @@ module _ (file : List ℕ) where
 
   -- this is done last
   done_last : {A : Type 0} (x : A) (first later : List Call) (result : A) → Makes (Done x) later result → read_from (first ++ later) ≡ read_from first
-  done_last x first later result makes = both_read first later ∙ ap (λ (calls : List Call). first_of (read_from first) (read_from calls)) makes.calls_are ∙ first_alone (read_from first)
+  done_last x first later result makes =
+      both_read first later ∙ ap (λ (calls : List Call). first_of (read_from first) (read_from calls)) makes.calls_are ∙ first_alone (read_from first)
 
   one_shown : (m : Managed) (calls : List Call) (one : Loaded) → Makes (loading_one m) calls one → read_from calls ≡ one_gives one
   one_shown m calls one makes =
@@ -145,7 +149,8 @@ module _ (file : List ℕ) where
       makes_both ask4 (λ lease4. after ask6 (λ lease6. Done (loaded m lease4 lease6))) calls one makes in
       let six : MakesBoth ask6 (λ lease6. Done (loaded m four.between lease6)) four.later one =
       makes_both ask6 (λ lease6. Done (loaded m four.between lease6)) four.later one four.makes_later in
-      let first : read_from four.first ≡ if_this (lease4_file m) four.between = reading_gives (runs_dhcp4 m.conf) (lease4_file m) four.first four.between four.makes_first in
+      let first : read_from four.first ≡ if_this (lease4_file m) four.between =
+      reading_gives (runs_dhcp4 m.conf) (lease4_file m) four.first four.between four.makes_first in
       let later : read_from four.later ≡ if_this (lease6_file m) six.between =
       ap read_from six.calls_are ∙ done_last (loaded m four.between six.between) six.first six.later one six.makes_later
       ∙ reading_gives (runs_dhcp6 m.conf) (lease6_file m) six.first six.between six.makes_first in
@@ -167,11 +172,14 @@ module _ (file : List ℕ) where
   resolver_shown : (duid : Option Reading) (ifaces : List Loaded) (calls : List Call) (files : FilesLoaded) → Makes (reading_resolver duid ifaces) calls files
       → read_from calls ≡ if_this resolver_file (Some files.resolver)
   resolver_shown duid ifaces calls files makes =
-      ap read_from makes.calls_are ∙ first_alone (if_this resolver_file (Some makes.answers.0)) ∙ sym (ap (λ (f : FilesLoaded). if_this resolver_file (Some f.resolver)) makes.result_is)
+      ap read_from makes.calls_are ∙ first_alone (if_this resolver_file (Some makes.answers.0))
+      ∙ sym (ap (λ (f : FilesLoaded). if_this resolver_file (Some f.resolver)) makes.result_is)
 
-  pub files_shown : (managed : List Managed) (calls : List Call) (files : FilesLoaded) → Makes (loading_files managed) calls files → read_from calls ≡ files_give files
+  pub files_shown : (managed : List Managed) (calls : List Call) (files : FilesLoaded) → Makes (loading_files managed) calls files
+      → read_from calls ≡ files_give files
   files_shown managed calls files makes =
-      let duid : MakesBoth (reading_if (some_need_duid managed) duid_file) (λ duid. after (loading managed) (λ ifaces. reading_resolver duid ifaces)) calls files =
+      let duid : MakesBoth (reading_if (some_need_duid managed) duid_file)
+      (λ duid. after (loading managed) (λ ifaces. reading_resolver duid ifaces)) calls files =
       makes_both (reading_if (some_need_duid managed) duid_file) (λ duid. after (loading managed) (λ ifaces. reading_resolver duid ifaces)) calls files makes in
       let ifaces : MakesBoth (loading managed) (λ ifaces. reading_resolver duid.between ifaces) duid.later files =
       makes_both (loading managed) (λ ifaces. reading_resolver duid.between ifaces) duid.later files duid.makes_later in
@@ -179,7 +187,10 @@ module _ (file : List ℕ) where
       ifaces.makes_later.result_is ∙ ap (λ (f : FilesLoaded). files_loaded duid.between ifaces.between f.resolver) (sym ifaces.makes_later.result_is) in
       let later : read_from duid.later ≡ first_of (all_give ifaces.between) (if_this resolver_file (Some files.resolver)) =
       ap read_from ifaces.calls_are ∙ both_read ifaces.first ifaces.later
-      ∙ (λ i. first_of (all_shown managed ifaces.first ifaces.between ifaces.makes_first i) (resolver_shown duid.between ifaces.between ifaces.later files ifaces.makes_later i)) in
+      ∙
+      (λ i. first_of (all_shown managed ifaces.first ifaces.between ifaces.makes_first i)
+      (resolver_shown duid.between ifaces.between ifaces.later files ifaces.makes_later i))
+      in
       ap read_from duid.calls_are ∙ both_read duid.first duid.later
       ∙ (λ i. first_of (reading_gives (some_need_duid managed) duid_file duid.first duid.between duid.makes_first i) (later i))
       ∙ sym (ap files_give last)
@@ -246,7 +257,9 @@ record HasNoName (file : List ℕ) (one : Loaded) : Type 0 where
   six : bytes_eq file (lease6_file one.managed) ≡ false
 
 one_none : (file : List ℕ) (one : Loaded) → HasNoName file one → one_gives file one ≡ None
-one_none file one other = λ i. first_of (not_this (bytes_eq file (lease4_file one.managed)) one.lease4 other.four i) (not_this (bytes_eq file (lease6_file one.managed)) one.lease6 other.six i)
+one_none file one other =
+    λ i. first_of (not_this (bytes_eq file (lease4_file one.managed)) one.lease4 other.four i)
+    (not_this (bytes_eq file (lease6_file one.managed)) one.lease6 other.six i)
 
 none_gives : (file : List ℕ) (all : List Loaded) → AllByRecursion (HasNoName file) all → all_give file all ≡ None
 none_gives file [] others = refl
@@ -264,8 +277,10 @@ duid_apart (one ∷ all) = (
 
 duid_given : (files : FilesLoaded) → files_give duid_file files ≡ files.duid
 duid_given files =
-    (λ i. first_of (this (bytes_eq duid_file duid_file) files.duid (itself duid_file) i) (first_of (none_gives duid_file files.ifaces (duid_apart files.ifaces) i)
-    (not_this (bytes_eq duid_file resolver_file) (Some files.resolver) (ends_differ duid_file resolver_file 100 102 duid_ends resolver_ends (λ e. absurd (omega (arith, e)))) i)))
+    (λ i. first_of (this (bytes_eq duid_file duid_file) files.duid (itself duid_file) i)
+    (first_of (none_gives duid_file files.ifaces (duid_apart files.ifaces) i)
+    (not_this (bytes_eq duid_file resolver_file) (Some files.resolver)
+    (ends_differ duid_file resolver_file 100 102 duid_ends resolver_ends (λ e. absurd (omega (arith, e)))) i)))
     ∙ first_alone files.duid
 
 -- ---- the leases of interfaces with unlike names
@@ -304,9 +319,13 @@ first_given one all others =
     (ends_differ (lease6_file one.managed) (lease4_file one.managed) 54 52 (ends6 one.managed) (ends4 one.managed) (λ e. absurd (omega (arith, e)))) i)
     (this (bytes_eq (lease6_file one.managed) (lease6_file one.managed)) one.lease6 (itself (lease6_file one.managed)) i) in
     record {
-      four = (λ i. first_of (four i) (none_gives (lease4_file one.managed) all (all_map (AreOthers one) (HasNoName (lease4_file one.managed)) (has_no_name4 one) all others) i))
+      four =
+          (λ i. first_of (four i)
+          (none_gives (lease4_file one.managed) all (all_map (AreOthers one) (HasNoName (lease4_file one.managed)) (has_no_name4 one) all others) i))
           ∙ first_alone (first_of one.lease4 None) ∙ first_alone one.lease4;
-      six = (λ i. first_of (six i) (none_gives (lease6_file one.managed) all (all_map (AreOthers one) (HasNoName (lease6_file one.managed)) (has_no_name6 one) all others) i))
+      six =
+          (λ i. first_of (six i)
+          (none_gives (lease6_file one.managed) all (all_map (AreOthers one) (HasNoName (lease6_file one.managed)) (has_no_name6 one) all others) i))
           ∙ first_alone one.lease6;
     }
 
@@ -341,9 +360,11 @@ pub record IsShown (calls : List Call) (one : Loaded) : Type 0 where
   pub six : read_from (lease6_file one.managed) calls ≡ one.lease6
 
 -- a lease's file among all that were read
-among_files : (file : List ℕ) (byte : ℕ) → last_of 0 file ≡ byte → (byte ≡ 100 → ⊥) → (byte ≡ 102 → ⊥) → (files : FilesLoaded) → files_give file files ≡ all_give file files.ifaces
+among_files : (file : List ℕ) (byte : ℕ) → last_of 0 file ≡ byte → (byte ≡ 100 → ⊥) → (byte ≡ 102 → ⊥) → (files : FilesLoaded)
+    → files_give file files ≡ all_give file files.ifaces
 among_files file byte ends no_duid no_resolver files =
-    (λ i. first_of (not_this (bytes_eq file duid_file) files.duid (ends_differ file duid_file byte 100 ends duid_ends no_duid) i) (first_of (all_give file files.ifaces)
+    (λ i. first_of (not_this (bytes_eq file duid_file) files.duid (ends_differ file duid_file byte 100 ends duid_ends no_duid) i)
+    (first_of (all_give file files.ifaces)
     (not_this (bytes_eq file resolver_file) (Some files.resolver) (ends_differ file resolver_file byte 102 ends resolver_ends no_resolver) i)))
     ∙ first_alone (all_give file files.ifaces)
 
@@ -351,7 +372,8 @@ module _ (managed : List Managed) (front reads rest : List Call) (files : FilesL
     (before : (file : List ℕ) → AllByRecursion (IsOther file) front) (behind : (file : List ℕ) → AllByRecursion (IsOther file) rest) where
   shown_of : (file : List ℕ) → read_from file (front ++ (reads ++ rest)) ≡ files_give file files
   shown_of file =
-      both_read file front (reads ++ rest) ∙ ap (λ (found : Option Reading). first_of found (read_from file (reads ++ rest))) (none_read file front (before file))
+      both_read file front (reads ++ rest)
+      ∙ ap (λ (found : Option Reading). first_of found (read_from file (reads ++ rest))) (none_read file front (before file))
       ∙ both_read file reads rest ∙ ap (λ (found : Option Reading). first_of (read_from file reads) found) (none_read file rest (behind file))
       ∙ first_alone (read_from file reads) ∙ files_shown file managed reads files makes
 
@@ -360,15 +382,20 @@ module _ (managed : List Managed) (front reads rest : List Call) (files : FilesL
 
   lease_shown : (one : Loaded) → IsGiven files.ifaces one → IsShown (front ++ (reads ++ rest)) one
   lease_shown one given = record {
-    four = shown_of (lease4_file one.managed) ∙ among_files (lease4_file one.managed) 52 (ends4 one.managed) (λ e. absurd (omega (arith, e))) (λ e. absurd (omega (arith, e))) files ∙ given.four;
-    six = shown_of (lease6_file one.managed) ∙ among_files (lease6_file one.managed) 54 (ends6 one.managed) (λ e. absurd (omega (arith, e))) (λ e. absurd (omega (arith, e))) files ∙ given.six;
+    four =
+        shown_of (lease4_file one.managed)
+        ∙ among_files (lease4_file one.managed) 52 (ends4 one.managed) (λ e. absurd (omega (arith, e))) (λ e. absurd (omega (arith, e))) files ∙ given.four;
+    six =
+        shown_of (lease6_file one.managed)
+        ∙ among_files (lease6_file one.managed) 54 (ends6 one.managed) (λ e. absurd (omega (arith, e))) (λ e. absurd (omega (arith, e))) files ∙ given.six;
   }
 
   pub leases_shown : AreNamedApart managed → AllByRecursion (IsShown (front ++ (reads ++ rest))) files.ifaces
   leases_shown apart =
       all_map (IsGiven files.ifaces) (IsShown (front ++ (reads ++ rest))) lease_shown files.ifaces
       (each_given files.ifaces
-      (subst (λ (ms : List Managed). IsDistinct bytes_eq (map (λ (m : Managed). name_text m.spec.name) ms)) (sym (files_are_loaded managed reads files makes)) apart))
+      (subst (λ (ms : List Managed). IsDistinct bytes_eq (map (λ (m : Managed). name_text m.spec.name) ms))
+      (sym (files_are_loaded managed reads files makes)) apart))
 
 -- ---- the leases with which the interfaces begin
 
@@ -377,7 +404,8 @@ pub record KeepsShown (calls : List Call) (b : Beginning) : Type 0 where
   pub four : b.kept4 ≡ kept4_shown calls b.managed
   pub six : b.kept6 ≡ kept6_shown calls b.managed
 
-pub beginnings_shown : (duid : List ℕ) (calls : List Call) (all : List Loaded) → AllByRecursion (IsShown calls) all → AllByRecursion (KeepsShown calls) (map (beginning_of duid) all)
+pub beginnings_shown : (duid : List ℕ) (calls : List Call) (all : List Loaded) → AllByRecursion (IsShown calls) all
+    → AllByRecursion (KeepsShown calls) (map (beginning_of duid) all)
 beginnings_shown duid calls [] shown = tt
 beginnings_shown duid calls (one ∷ all) shown = (
   record {

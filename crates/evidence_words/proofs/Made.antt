@@ -89,7 +89,8 @@ silent_so asks each calls result makes = none_offered calls (each calls result m
 both_silent : {A B : Type 0} (asks : Asks A) (more : A → Asks B) → Silent asks → ((x : A) → Silent (more x)) → Silent (after asks more)
 both_silent {A} {B} asks more first later calls result makes =
     let both : MakesBoth asks more calls result = makes_both asks more calls result makes in
-    silent_first calls both.first both.later both.calls_are (first both.first both.between both.makes_first) ∙ later both.between both.later result both.makes_later
+    silent_first calls both.first both.later both.calls_are (first both.first both.between both.makes_first)
+    ∙ later both.between both.later result both.makes_later
 
 host_silent : (call : HostCall) → OffersNone (Host call)
 host_silent call = refl
@@ -147,7 +148,8 @@ module _ (managed : List Managed) (outlook : Outlook) (step : ClientStep) (momen
   rest_silent : (unsent : ℕ) → Silent (to_host unsent)
   rest_silent unsent =
       both_silent (hosting managed (rows_of step.client) outlook.known) (λ known. to_hook unsent known)
-      (silent_so (hosting managed (rows_of step.client) outlook.known) (hosting_each OffersNone host_silent store_silent managed (rows_of step.client) outlook.known))
+      (silent_so (hosting managed (rows_of step.client) outlook.known)
+      (hosting_each OffersNone host_silent store_silent managed (rows_of step.client) outlook.known))
       (λ known. both_silent (hooking moment step.jobs outlook.hooks) (λ hooks. to_keep unsent known hooks) (hooking_silent moment step.jobs outlook.hooks)
       (λ hooks. both_silent (keeping step.client.ifaces outlook.files) (λ files. Done (life_with unsent known hooks files))
       (silent_so (keeping step.client.ifaces outlook.files) (keeping_each OffersNone host_silent store_silent step.client.ifaces outlook.files))
@@ -181,14 +183,16 @@ module _ (managed : List Managed) (outlook : Outlook) (step : ClientStep) (momen
 
   pub acting_shows : (calls : List Call) (life : Life) → Makes (acting managed outlook step moment stop) calls life → Shown step moment calls life
   acting_shows calls life makes =
-      let one : MakesBoth (offering step.sends 0) (λ unsent. to_host unsent) calls life = makes_both (offering step.sends 0) (λ unsent. to_host unsent) calls life makes in
+      let one : MakesBoth (offering step.sends 0) (λ unsent. to_host unsent) calls life =
+      makes_both (offering step.sends 0) (λ unsent. to_host unsent) calls life makes in
       let answers : Answers (offering step.sends 0) = one.makes_first.answers in
       let ends : Ends one.between life = rest_ends one.between one.later life one.makes_later in
       record {
         taken = outcomes step.sends 0 answers;
         answered = outcomes_all step.sends 0 answers;
         offers = in_turn calls one.first one.later one.calls_are
-            ∙ ap (λ (rest : List Offer). flat_map offer_in one.first ++ rest) (rest_silent one.between one.later life one.makes_later) ∙ append-nil (flat_map offer_in one.first)
+            ∙ ap (λ (rest : List Offer). flat_map offer_in one.first ++ rest) (rest_silent one.between one.later life one.makes_later)
+            ∙ append-nil (flat_map offer_in one.first)
             ∙ ap (flat_map offer_in) one.makes_first.calls_are ∙ offers_are step.sends 0 answers;
         client = ends.client_is;
         now = ends.now_is;
@@ -228,16 +232,19 @@ pub opening_shows : (managed : List Managed) (specs : List IfSpec) (begin : Begi
     → Makes (opening_asks managed specs begin) calls life → OpeningShown managed specs begin calls life
 unfolding opening_asks
 opening_shows managed specs begin calls life makes =
-    let acts : FilesLoaded → Asks Life = λ files. acting managed (outlook_from managed files) (opening_step managed files specs begin) (moment_of begin.at) None in
+    let acts : FilesLoaded → Asks Life =
+    λ files. acting managed (outlook_from managed files) (opening_step managed files specs begin) (moment_of begin.at) None in
     let one : MakesBoth clearing (λ _. after (loading_files managed) acts) calls life =
     makes_both clearing (λ _. after (loading_files managed) acts) calls life makes in
     let two : MakesBoth (loading_files managed) acts one.later life = makes_both (loading_files managed) acts one.later life one.makes_later in
     let shown =
-    acting_shows managed (outlook_from managed two.between) (opening_step managed two.between specs begin) (moment_of begin.at) None two.later life two.makes_later in
+    acting_shows managed (outlook_from managed two.between) (opening_step managed two.between specs begin)
+    (moment_of begin.at) None two.later life two.makes_later in
     let all : calls ≡ one.first ++ (two.first ++ two.later) = one.calls_are ∙ ap (λ (rest : List Call). one.first ++ rest) two.calls_are in
     let before : (file : List ℕ) → AllByRecursion (IsOther file) one.first = λ file. clearing_other file one.first tt one.makes_first in
     let behind : (file : List ℕ) → AllByRecursion (IsOther file) two.later =
-    λ file. acting_other file managed (outlook_from managed two.between) (opening_step managed two.between specs begin) (moment_of begin.at) None two.later life two.makes_later in
+    λ file. acting_other file managed (outlook_from managed two.between) (opening_step managed two.between specs begin)
+    (moment_of begin.at) None two.later life two.makes_later in
     record {
       files = two.between;
       reads = two.first;
@@ -248,7 +255,9 @@ opening_shows managed specs begin calls life makes =
       shown = record {
         taken = shown.taken;
         answered = shown.answered;
-        offers = silent_first calls one.first one.later one.calls_are (silent_so clearing (clearing_each OffersNone host_silent store_silent) one.first tt one.makes_first)
+        offers =
+            silent_first calls one.first one.later one.calls_are
+            (silent_so clearing (clearing_each OffersNone host_silent store_silent) one.first tt one.makes_first)
             ∙ silent_first one.later two.first two.later two.calls_are (files_silent managed two.first two.between two.makes_first)
             ∙ shown.offers;
         client = shown.client;

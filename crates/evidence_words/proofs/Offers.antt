@@ -126,14 +126,16 @@ record Passes (index : ℕ) (offers : List Offer) (rest : List Offer) (now rest_
   same : offers ≡ rest
   clean : now → rest_clean
 
-not_mine : (spec : IfSpec) (ask : AskContent) (index : ℕ) (say : Said) → (spec.index.number == index) ≡ false → ((spelled spec ask say).iface.number == index) ≡ false
+not_mine : (spec : IfSpec) (ask : AskContent) (index : ℕ) (say : Said) → (spec.index.number == index) ≡ false
+    → ((spelled spec ask say).iface.number == index) ≡ false
 not_mine spec ask index say h = h
 
 passed : (s : Sending) (index : ℕ) → (s.iface.number == index) ≡ false → (sends : List Sending) (ok : Bool) (taken : List Bool)
     → found index (s ∷ sends) (ok ∷ taken) ≡ found index sends taken
 passed s index other sends ok taken = rw other refl
 
-passes : (spec : IfSpec) (ask : AskContent) (index : ℕ) → (spec.index.number == index) ≡ false → (said : List Said) (sends : List Sending) (taken : List Bool) (set : ℕ)
+passes : (spec : IfSpec) (ask : AskContent) (index : ℕ) → (spec.index.number == index) ≡ false
+    → (said : List Said) (sends : List Sending) (taken : List Bool) (set : ℕ)
     → length taken ≡ length (map (spelled spec ask) said ++ sends)
     → Passes index (found index (map (spelled spec ask) said ++ sends) taken) (found index sends (beyond said taken))
     (Clean index (map (spelled spec ask) said ++ sends) taken set) (Clean index sends (beyond said taken) (set_after spec said taken set))
@@ -170,7 +172,8 @@ elsewhere : (index : ℕ) (steps : List IfaceStep) → AllByRecursion (λ step. 
     → AllByRecursion (λ s. (s.iface.number == index) ≡ false) (flat_map sends_of steps)
 elsewhere index [] h = tt
 elsewhere index (step ∷ steps) h =
-    all_join _ (sends_of step) (flat_map sends_of steps) (said_elsewhere (spec_of step) (ask_in step) index step.said (turn_round _ _ h.0)) (elsewhere index steps h.1)
+    all_join _ (sends_of step) (flat_map sends_of steps) (said_elsewhere (spec_of step) (ask_in step) index step.said (turn_round _ _ h.0))
+    (elsewhere index steps h.1)
   where
     turn_round : (a b : ℕ) → (a == b) ≡ false → (b == a) ≡ false
     turn_round a b h = grind (arith, nat_tests)
@@ -194,7 +197,10 @@ offered (step ∷ steps) taken set len apart =
       offered-own (spec_of step) (ask_in step) step.said (flat_map sends_of steps) taken set len (elsewhere (spec_of step).index.number steps others),
       all_both _ _ _ (λ other apart_from h.
           let p = passes (spec_of step) (ask_in step) (spec_of other).index.number apart_from step.said (flat_map sends_of steps) taken set len in
-          subst (λ offers. Offered (spec_of other) (ask_in other) (Clean (spec_of other).index.number (flat_map sends_of (step ∷ steps)) taken set) other.said offers) (sym p.same)
+          subst
+          (λ offers. Offered (spec_of other) (ask_in other)
+          (Clean (spec_of other).index.number (flat_map sends_of (step ∷ steps)) taken set) other.said offers)
+          (sym p.same)
           (offered-clean (spec_of other) (ask_in other) _ _ p.clean other.said _ h)) steps others later,
     )
 
@@ -213,7 +219,8 @@ no_bit x e h = grind (arith, nat_tests)
 -- another interface leaves the bit as it is
 was_in : (other index set : ℕ) → 1 ≤ other → 1 ≤ index → (other == index) ≡ false → is_in (with_iface other set) index ≡ true → is_in set index ≡ true
 was_in other index set some_other some unlike h =
-    not_both _ _ _ (bit_at_or set (2 ^ (other - 1)) (index - 1)) (bit_at-pow_other (other - 1) (index - 1) (λ same. apart other index some_other some unlike same)) h
+    not_both _ _ _ (bit_at_or set (2 ^ (other - 1)) (index - 1))
+    (bit_at-pow_other (other - 1) (index - 1) (λ same. apart other index some_other some unlike same)) h
   where
     apart : (a b : ℕ) → 1 ≤ a → 1 ≤ b → (a == b) ≡ false → b - 1 ≡ a - 1 → ⊥
     apart a b first second unlike same = grind (arith, nat_tests)

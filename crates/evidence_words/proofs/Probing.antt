@@ -47,7 +47,8 @@ module _ (C : TurnWord) (site : Site) (addr : Ip4) where
 
   -- a probe after other messages
   pub probe_among : (clean : Type 0) (front more : List Said) (offers : List Offer)
-      → Offered site.managed.spec (ask_of site.duid site.managed) clean ((front ++ Arp (Probe addr) ∷ []) ++ more) offers → clean → probe_taken site addr offers ≡ true
+      → Offered site.managed.spec (ask_of site.duid site.managed) clean ((front ++ Arp (Probe addr) ∷ []) ++ more) offers → clean
+      → probe_taken site addr offers ≡ true
   probe_among clean [] more offers h k = probe_offered clean more offers h k
   probe_among clean (say ∷ front) more [] h k = absurd h
   probe_among clean (say ∷ front) more (o ∷ offers) h k =

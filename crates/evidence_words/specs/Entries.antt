@@ -1,4 +1,5 @@
--- What a life shows, turn by turn: what came, and which frames were offered on which interface. Nothing of a machine's state.
+-- What a life shows, turn by turn: what came, and which frames were offered on which interface. Nothing of a machine's
+-- state.
 use Rattle.std.specs.Prelude.{ℕ, Bool, ◌==◌, List, [], ◌∷◌, filter, flat_map}
 use Rattle.world.specs.declared.wakes.Event.{Event}
 use Rattle.world.specs.declared.wakes.Event.TheVariants.{Quiet}
@@ -33,11 +34,13 @@ offer_in (Hook number call) = []
 offer_in (Dropped job) = []
 
 abbrev pub entry_of : Met → Entry
-entry_of met = record { moment = met.life.now; event = met.wake.event; bytes = met.bytes; offers = flat_map offer_in met.calls }
+entry_of met =
+    record { moment = met.life.now; event = met.wake.event; bytes = met.bytes; offers = flat_map offer_in met.calls }
 
 -- the opening counts as a turn without input
 abbrev pub opening_entry : OpeningMet → Entry
-opening_entry opening = record { moment = opening.life.now; event = Quiet; bytes = []; offers = flat_map offer_in opening.calls }
+opening_entry opening =
+    record { moment = opening.life.now; event = Quiet; bytes = []; offers = flat_map offer_in opening.calls }
 
 -- what the turns of a life show, in front of what was shown before; the newest first
 abbrev pub shown_after : List Entry → List Met → List Entry

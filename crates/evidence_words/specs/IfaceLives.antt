@@ -55,11 +55,13 @@ opens beginning opening = opened opening.up opening.at opening.salt beginning
 -- the interface after the turns
 abbrev pub iface_after : List Mac → Beginning → Opening → List Met → Iface
 iface_after own beginning opening [] = (opens beginning opening).iface
-iface_after own beginning opening (met ∷ mets) = (iface_turned own met.turn (iface_after own beginning opening mets)).iface
+iface_after own beginning opening (met ∷ mets) =
+    (iface_turned own met.turn (iface_after own beginning opening mets)).iface
 
 -- the frames that are offered on the interface are those of what it says, in order
 abbrev pub IsSaid : Site → Entry → IfaceStep → Type 0
-IsSaid site e step = map (λ o. o.bytes) (offers_at site e) ≡ map (frame_of site.managed.spec (ask_of site.duid site.managed)) step.said
+IsSaid site e step =
+    map (λ o. o.bytes) (offers_at site e) ≡ map (frame_of site.managed.spec (ask_of site.duid site.managed)) step.said
 
 -- whether the link refused one of them
 abbrev pub has_failed : Site → Entry → Bool
@@ -70,8 +72,8 @@ abbrev pub failed_last : Site → List Entry → Bool
 failed_last site [] = false
 failed_last site (e ∷ past) = has_failed site e
 
--- The opening and each turn offer what the interface says. A turn is told whether a send of the turn before failed, its moment
--- is before 10^15, and what comes in are bytes.
+-- The opening and each turn offer what the interface says. A turn is told whether a send of the turn before failed, its
+-- moment is before 10^15, and what comes in are bytes.
 abbrev pub IsLived : List Mac → Beginning → Opening → List Met → Type 0
 IsLived own beginning opening [] =
     (opening.at < 10 ^ 15) × IsSaid (site_of own beginning opening) (opening_entry opening) (opens beginning opening)

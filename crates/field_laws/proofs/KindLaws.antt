@@ -23,7 +23,8 @@ number_lacks limit n byte fits other = decimal_lacks n byte fits.small other
 
 pub number_is : (limit : ℕ) → IsField (number_field limit)
 number_is limit = record {
-  reads = same_range (FitsNumber limit) (λ n fits. (fits.small, lt-ltb n limit fits.below)) (λ n fits. record { small = fits.0; below = ltb-true n limit fits.1 })
+  reads =
+      same_range (FitsNumber limit) (λ n fits. (fits.small, lt-ltb n limit fits.below)) (λ n fits. record { small = fits.0; below = ltb-true n limit fits.1 })
       (guard_reads (λ n. nat_lt n limit) (number_reads (2 ^ 64) (omega arith)));
   no_feed = λ n fits. number_lacks limit n 10 fits refl;
 }

@@ -17,8 +17,8 @@ pub fn kinds_are_fields()
     ensures none { IsField no_field }
 {}
 
-/// Law: two fields with a blank between them, a field after a word, its values that pass a test, and values told by it are fields.
-/// Said of numbers and of bytes: the lemmas hold of any field.
+/// Law: two fields with a blank between them, a field after a word, its values that pass a test, and values told by it
+/// are fields. Said of numbers and of bytes: the lemmas hold of any field.
 pub fn fields_are_made_of_fields()
     ensures parted { (limit : ℕ) → IsField (parted (number_field limit) hex_field) }
     ensures worded { (limit : ℕ) (word : List ℕ) → Lacks 10 word → IsField (worded word (number_field limit)) }

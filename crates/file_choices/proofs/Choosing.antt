@@ -88,7 +88,8 @@ module _ (names : List (List ℕ)) (name : List ℕ) where
   stands_written other bytes true files c leaves = (aside_written c.told other bytes files leaves, λ e. ap (λ (b : Bool). cond b (Some bytes) c.aside) e)
   stands_written other bytes false files c leaves = tt
 
-  stands_synced : (other : List ℕ) (done : Bool) (files : List StoreFile) (saving : Saving) (c : Chosen) → Stands saving c → LeavesFiles (SyncedAside other done) c.told.files files
+  stands_synced : (other : List ℕ) (done : Bool) (files : List StoreFile) (saving : Saving) (c : Chosen) → Stands saving c
+      → LeavesFiles (SyncedAside other done) c.told.files files
       → Stands (saving_after (SyncedAside other done) saving) (chosen_after name (SyncedAside other done) files c)
   stands_synced other false files saving c stands leaves = tt
   stands_synced other true files Idle c stands leaves = tt
@@ -103,7 +104,11 @@ module _ (names : List (List ℕ)) (name : List ℕ) where
           let kept : files ≡ c.told.files = sync_files c.told other true files leaves in
           let there : file_at (aside_of other) c.told.files ≡ Some bytes = ap (λ (n : List ℕ). file_at (aside_of n) c.told.files) (sym same) ∙ stands.0 in (
             (ap (file_at (aside_of saved)) kept ∙ stands.0, stands.1),
-            ap (λ (n : List ℕ). (changed_file (aside_of n) (file_at (aside_of n) files) (synced (aside_of other) (file_at (aside_of other) c.told.files) c.told.disk)).unsynced) same
+            ap
+                (λ (n : List ℕ).
+                (changed_file (aside_of n) (file_at (aside_of n) files)
+                (synced (aside_of other) (file_at (aside_of other) c.told.files) c.told.disk)).unsynced)
+                same
                 ∙ ap (λ (f : ChangedFile). f.unsynced) (aside_synced c.told other bytes there (file_at (aside_of other) files)),
           )
 
@@ -125,7 +130,8 @@ module _ (names : List (List ℕ)) (name : List ℕ) where
   stands_next (SettledFiles done) files saving c stands leaves = tt
 
   -- a renaming puts the synced aside in place
-  put_by : (other : List ℕ) (done : Bool) (files : List StoreFile) (saving : Saving) (c : Chosen) → MayCome names (RenamedAside other done) saving → Stands saving c
+  put_by : (other : List ℕ) (done : Bool) (files : List StoreFile) (saving : Saving) (c : Chosen) → MayCome names (RenamedAside other done) saving
+      → Stands saving c
       → is_name name (aside_of other) ≡ false → left_of name c.told ≡ c.file → is_name name other ≡ true
       → left_of name (store_answered (RenamedAside other done) files c.told) ≡ with_aside c.aside (not done && c.file.unsynced) c.file
   put_by other done files Idle c may stands apart left here = absurd may.0
@@ -150,7 +156,8 @@ module _ (names : List (List ℕ)) (name : List ℕ) where
 
   -- ---- what the file reads as
 
-  reads_same : (call : StoreCall) (aside : Option (List ℕ)) (reads : Option (Option (List ℕ))) → changes name call ≡ false → reads_after name call aside reads ≡ reads
+  reads_same : (call : StoreCall) (aside : Option (List ℕ)) (reads : Option (Option (List ℕ))) → changes name call ≡ false
+      → reads_after name call aside reads ≡ reads
   reads_same (ListedAsides listed) aside reads other = refl
   reads_same (ReadFile n reading) aside reads other = refl
   reads_same (WroteAside n bytes done) aside reads other = refl
@@ -162,14 +169,16 @@ module _ (names : List (List ℕ)) (name : List ℕ) where
   abbrev Reads : Chosen → Type 0
   Reads c = ReadsSo c.reads (file_at name c.told.files)
 
-  reads_apart : (call : StoreCall) (files : List StoreFile) (c : Chosen) → IsApart name call → changes name call ≡ false → LeavesFiles call c.told.files files → Reads c
+  reads_apart : (call : StoreCall) (files : List StoreFile) (c : Chosen) → IsApart name call → changes name call ≡ false → LeavesFiles call c.told.files files
+      → Reads c
       → Reads (chosen_after name call files c)
   reads_apart call files c apart other leaves reads =
       subst (λ (r : Option (Option (List ℕ))). ReadsSo r (file_at name files)) (sym (reads_same call c.aside c.reads other))
       (subst (ReadsSo c.reads) (sym (reads_stay name call c.told.files files apart other leaves)) reads)
 
   -- a synced aside was put in place
-  reads_put : (other : List ℕ) (done : Bool) (files : List StoreFile) (saving : Saving) (c : Chosen) → MayCome names (RenamedAside other done) saving → Stands saving c
+  reads_put : (other : List ℕ) (done : Bool) (files : List StoreFile) (saving : Saving) (c : Chosen) → MayCome names (RenamedAside other done) saving
+      → Stands saving c
       → is_name name (aside_of other) ≡ false → is_name name other ≡ true → LeavesFiles (RenamedAside other done) c.told.files files
       → ReadsSo (cond done (Some c.aside) None) (file_at name files)
   reads_put other false files saving c may stands apart here leaves = tt
@@ -178,26 +187,32 @@ module _ (names : List (List ℕ)) (name : List ℕ) where
   reads_put other true files Put c may stands apart here leaves = absurd may.0
   reads_put other true files (Synced saved bytes) c may stands apart here leaves =
       let is : Stands (Synced other bytes) c = subst (λ (n : List ℕ). Stands (Synced n bytes) c) (same_name saved other may.0) stands in
-      ap (file_at name) (done_files (RenamedAside other true) c.told.files files refl leaves ∙ ap (λ (o : Option (List ℕ)). rename_file other o c.told.files) is.0.0)
+      ap (file_at name)
+      (done_files (RenamedAside other true) c.told.files files refl leaves ∙ ap (λ (o : Option (List ℕ)). rename_file other o c.told.files) is.0.0)
       ∙ file_left (aside_of other) name (put_file (record { name = other; bytes = bytes }) c.told.files) apart
       ∙ ap (λ (n : List ℕ). file_at n (put_file (record { name = other; bytes = bytes }) c.told.files)) (same_name name other here)
       ∙ file_found other bytes c.told.files ∙ sym (is.0.1 here)
 
-  reads_removed : (other : List ℕ) (done : Bool) (files : List StoreFile) (c : Chosen) → IsSound c.told → is_name name other ≡ true → LeavesFiles (RemovedFile other done) c.told.files files
+  reads_removed : (other : List ℕ) (done : Bool) (files : List StoreFile) (c : Chosen) → IsSound c.told → is_name name other ≡ true
+      → LeavesFiles (RemovedFile other done) c.told.files files
       → ReadsSo (cond done (Some None) None) (file_at name files)
   reads_removed other false files c sound here leaves = tt
   reads_removed other true files c sound here leaves =
-      ap (file_at name) (done_files (RemovedFile other true) c.told.files files refl leaves ∙ ap (λ (n : List ℕ). drop_file n c.told.files) (sym (same_name name other here)))
+      ap (file_at name)
+      (done_files (RemovedFile other true) c.told.files files refl leaves ∙ ap (λ (n : List ℕ). drop_file n c.told.files) (sym (same_name name other here)))
       ∙ file_gone name c.told.files sound.files_in_order
 
-  reads_next : (call : StoreCall) (files : List StoreFile) (saving : Saving) (c : Chosen) → IsSound c.told → MayCome names call saving → Stands saving c → IsApart name call
+  reads_next : (call : StoreCall) (files : List StoreFile) (saving : Saving) (c : Chosen) → IsSound c.told → MayCome names call saving → Stands saving c
+      → IsApart name call
       → LeavesFiles call c.told.files files → Reads c → Reads (chosen_after name call files c)
   reads_next (ListedAsides listed) files saving c sound may stands apart leaves reads = reads_apart (ListedAsides listed) files c tt refl leaves reads
   reads_next (ReadFile n reading) files saving c sound may stands apart leaves reads = reads_apart (ReadFile n reading) files c tt refl leaves reads
-  reads_next (WroteAside n bytes done) files saving c sound may stands apart leaves reads = reads_apart (WroteAside n bytes done) files c apart refl leaves reads
+  reads_next (WroteAside n bytes done) files saving c sound may stands apart leaves reads =
+      reads_apart (WroteAside n bytes done) files c apart refl leaves reads
   reads_next (SyncedAside n done) files saving c sound may stands apart leaves reads = reads_apart (SyncedAside n done) files c apart refl leaves reads
   reads_next (RenamedAside n done) files saving c sound may stands apart leaves reads =
-      split (is_name name n) (λ e. rw e (reads_put n done files saving c may stands apart e leaves)) (λ e. reads_apart (RenamedAside n done) files c apart e leaves reads)
+      split (is_name name n) (λ e. rw e (reads_put n done files saving c may stands apart e leaves))
+      (λ e. reads_apart (RenamedAside n done) files c apart e leaves reads)
   reads_next (RemovedFile n done) files saving c sound may stands apart leaves reads =
       split (is_name name n) (λ e. rw e (reads_removed n done files c sound e leaves)) (λ e. reads_apart (RemovedFile n done) files c tt e leaves reads)
   reads_next (SettledFiles done) files saving c sound may stands apart leaves reads = reads_apart (SettledFiles done) files c tt refl leaves reads
@@ -298,7 +313,9 @@ module _ (names : List (List ℕ)) (name : List ℕ) where
       by : (b : Bool) → is_name name n ≡ b → b ≡ false
       by false e = refl
       by true e =
-          absurd (let bad : true ≡ false = sym may.1 ∙ ap (λ (m : List ℕ). is_aside m || is_kept names m) (sym (same_name name n e)) ∙ ap (λ (b : Bool). b || is_kept names name) plain ∙ other in cc)
+          absurd
+          (let bad : true ≡ false = sym may.1 ∙ ap (λ (m : List ℕ). is_aside m || is_kept names m) (sym (same_name name n e))
+          ∙ ap (λ (b : Bool). b || is_kept names name) plain ∙ other in cc)
   other_call plain other (SettledFiles done) saving may = refl
 
   -- ---- one call after another
@@ -315,7 +332,8 @@ module _ (names : List (List ℕ)) (name : List ℕ) where
       few : is_aside name ≡ false → HasFew saving c
       others : is_aside name ≡ false → Others c
 
-    holds_next : (call : StoreCall) (files : List StoreFile) (saving : Saving) (c : Chosen) → MayCome names call saving → IsApart name call → LeavesFiles call c.told.files files
+    holds_next : (call : StoreCall) (files : List StoreFile) (saving : Saving) (c : Chosen) → MayCome names call saving → IsApart name call
+        → LeavesFiles call c.told.files files
         → Holds saving c → Holds (saving_after call saving) (chosen_after name call files c)
     holds_next call files saving c may apart leaves h =
         let left = left_next call files saving c may h.stands apart h.left leaves in
@@ -341,7 +359,8 @@ module _ (names : List (List ℕ)) (name : List ℕ) where
       saving : Saving
       holds : Holds saving chosen
 
-    all_gone : (calls : List StoreCall) (saving : Saving) (c : Chosen) (after : StoreTold) (made : ℕ) → AreInTurn names calls saving → AllByRecursion (IsApart name) calls → Holds saving c
+    all_gone : (calls : List StoreCall) (saving : Saving) (c : Chosen) (after : StoreTold) (made : ℕ) → AreInTurn names calls saving
+        → AllByRecursion (IsApart name) calls → Holds saving c
         → Goes failing (take made calls) c.told after → Gone (take made calls) c after
     all_gone [] saving c after zero turn apart h goes = record { chosen = c; chooses = refl; told = sym goes; saving = saving; holds = h }
     all_gone [] saving c after (suc made) turn apart h goes = record { chosen = c; chooses = refl; told = sym goes; saving = saving; holds = h }
@@ -350,7 +369,9 @@ module _ (names : List (List ℕ)) (name : List ℕ) where
         let files : List StoreFile = goes.0 in
         let leaves : LeavesFiles call c.told.files files = leaves_files failing call c.told.files files goes.1.leaves in
         let now = turn (true_listing call c.told goes.1.truly) in
-        let rest = all_gone calls (saving_after call saving) (chosen_after name call files c) after made now.1 apart.1 (holds_next call files saving c now.0 apart.0 leaves h) goes.2 in
+        let rest =
+        all_gone calls (saving_after call saving) (chosen_after name call files c) after made now.1 apart.1
+        (holds_next call files saving c now.0 apart.0 leaves h) goes.2 in
         record { chosen = rest.chosen; chooses = (files, goes.1, rest.chooses); told = rest.told; saving = rest.saving; holds = rest.holds }
 
   -- ---- from an entry
@@ -402,7 +423,9 @@ few_plain names name (Synced other bytes) c few is = let f = few is in (f.0, let
 
 pub stay_whole : CallsInTurnStayWhole
 stay_whole failing names calls before turn sound made after goes name plain =
-    let gone = all_gone names name failing before calls Idle (chosen_at name before) after made turn (apart_calls name plain calls) (holds_at names name failing before sound) goes in
+    let gone =
+    all_gone names name failing before calls Idle (chosen_at name before) after made turn (apart_calls name plain calls)
+    (holds_at names name failing before sound) goes in
     record {
       leaves = leaves_so names name failing before after (take made calls) gone;
       few = few_plain names name gone.saving gone.chosen (gone.holds.few plain);

@@ -40,9 +40,11 @@ module _ (name : List ℕ) where
       → file_at name (rename_file other found files) ≡ file_at name files
   renamed_apart other None files apart unlike = refl
   renamed_apart other (Some bytes) files apart unlike =
-      file_left (aside_of other) name (put_file (record { name = other; bytes = bytes }) files) apart ∙ file_kept (record { name = other; bytes = bytes }) name files unlike
+      file_left (aside_of other) name (put_file (record { name = other; bytes = bytes }) files) apart
+      ∙ file_kept (record { name = other; bytes = bytes }) name files unlike
 
-  made_apart : (call : StoreCall) (files : List StoreFile) → IsApart name call → changes name call ≡ false → file_at name (files_by call files) ≡ file_at name files
+  made_apart : (call : StoreCall) (files : List StoreFile) → IsApart name call → changes name call ≡ false
+      → file_at name (files_by call files) ≡ file_at name files
   made_apart (ListedAsides names) files apart unlike = refl
   made_apart (ReadFile other reading) files apart unlike = refl
   made_apart (WroteAside other bytes done) files apart unlike = file_kept (record { name = aside_of other; bytes = bytes }) name files apart
@@ -51,7 +53,8 @@ module _ (name : List ℕ) where
   made_apart (RemovedFile other done) files apart unlike = file_left other name files unlike
   made_apart (SettledFiles done) files apart unlike = refl
 
-  pub reads_stay : (call : StoreCall) (old new : List StoreFile) → IsApart name call → changes name call ≡ false → LeavesFiles call old new → file_at name new ≡ file_at name old
+  pub reads_stay : (call : StoreCall) (old new : List StoreFile) → IsApart name call → changes name call ≡ false → LeavesFiles call old new
+      → file_at name new ≡ file_at name old
   reads_stay call old new apart unlike (inl is) = ap (file_at name) is ∙ made_apart call old apart unlike
   reads_stay call old new apart unlike (inr kept) = ap (file_at name) kept.1
 
@@ -62,9 +65,11 @@ module _ (name : List ℕ) where
     named_as : (other : List ℕ) (reads : Option (List ℕ)) (b : Bool) → is_name name other ≡ b → is_name name (changed_file other reads told.disk).name ≡ b
     named_as other reads b is = ap (is_name name) (changed_is_named other reads told.disk) ∙ is
 
-    sync_apart : (other : List ℕ) (r content : Option (List ℕ)) → is_name name (aside_of other) ≡ false → changed_file name r (synced (aside_of other) content told.disk) ≡ changed_file name r told.disk
+    sync_apart : (other : List ℕ) (r content : Option (List ℕ)) → is_name name (aside_of other) ≡ false
+        → changed_file name r (synced (aside_of other) content told.disk) ≡ changed_file name r told.disk
     sync_apart other r None apart = refl
-    sync_apart other r (Some bytes) apart = filter_stays changed_name (λ f. f) (unchanged name r) name (λ f. not (is_name (aside_of other) f.name)) keeps told.disk
+    sync_apart other r (Some bytes) apart =
+        filter_stays changed_name (λ f. f) (unchanged name r) name (λ f. not (is_name (aside_of other) f.name)) keeps told.disk
       where
         keeps : (x : ChangedFile) → is_name name (changed_name x) ≡ true → not (is_name (aside_of other) x.name) ≡ true
         keeps x here = ap not (by (is_name (aside_of other) x.name) refl)
@@ -88,19 +93,23 @@ module _ (name : List ℕ) where
     disk_apart (ListedAsides names) r apart unlike going = refl
     disk_apart (ReadFile other reading) r apart unlike going = refl
     disk_apart (WroteAside other bytes done) r apart unlike going =
-        changed_there name r (with_content (Some bytes) true (was (aside_of other))) told.disk (named_as (aside_of other) (file_at (aside_of other) told.files) false apart)
+        changed_there name r (with_content (Some bytes) true (was (aside_of other))) told.disk
+        (named_as (aside_of other) (file_at (aside_of other) told.files) false apart)
     disk_apart (SyncedAside other true) r apart unlike going = sync_apart other r (file_at (aside_of other) told.files) apart
     disk_apart (SyncedAside other false) r apart unlike going = refl
     disk_apart (RenamedAside other done) r apart unlike going = rename_apart other done r (file_at (aside_of other) told.files) apart unlike
     disk_apart (RemovedFile other done) r apart unlike going =
-        changed_there name r (with_content None (not done && (was other).unsynced) (was other)) told.disk (named_as other (file_at other told.files) false unlike)
+        changed_there name r (with_content None (not done && (was other).unsynced) (was other)) told.disk
+        (named_as other (file_at other told.files) false unlike)
     disk_apart (SettledFiles true) r apart unlike going = cc
     disk_apart (SettledFiles false) r apart unlike going = refl
 
-    pub left_apart : (call : StoreCall) (files : List StoreFile) → IsApart name call → changes name call ≡ false → is_settling call ≡ false → LeavesFiles call told.files files
+    pub left_apart : (call : StoreCall) (files : List StoreFile) → IsApart name call → changes name call ≡ false → is_settling call ≡ false
+        → LeavesFiles call told.files files
         → left_of name (store_answered call files told) ≡ left_of name told
     left_apart call files apart unlike going leaves =
-        disk_apart call (file_at name files) apart unlike going ∙ ap (λ (r : Option (List ℕ)). changed_file name r told.disk) (reads_stay call told.files files apart unlike leaves)
+        disk_apart call (file_at name files) apart unlike going
+        ∙ ap (λ (r : Option (List ℕ)). changed_file name r told.disk) (reads_stay call told.files files apart unlike leaves)
 
     -- ---- the file itself
 
@@ -108,7 +117,8 @@ module _ (name : List ℕ) where
       pub removed_here : (other : List ℕ) (done : Bool) (files : List StoreFile) → is_name name other ≡ true
           → left_of name (store_answered (RemovedFile other done) files told) ≡ with_content None (not done && file.unsynced) file
       removed_here other done files here =
-          changed_here name (file_at name files) (with_content None (not done && (was other).unsynced) (was other)) told.disk (named_as other (file_at other told.files) true here)
+          changed_here name (file_at name files) (with_content None (not done && (was other).unsynced) (was other)) told.disk
+          (named_as other (file_at other told.files) true here)
           ∙ ap (λ (f : ChangedFile). with_content None (not done && f.unsynced) f) (ap was (sym (same_name name other here)) ∙ left)
 
       -- an aside that was synced takes its place
@@ -117,7 +127,8 @@ module _ (name : List ℕ) where
           → left_of name (store_answered (RenamedAside other done) files told) ≡ with_content (Some bytes) (not done && file.unsynced) file
       renamed_here other bytes done files here apart there whole =
           ap (λ (o : Option (List ℕ)). changed_file name (file_at name files) (renamed other done (file_at other told.files) o told.disk)) there
-          ∙ changed_there name (file_at name files) (with_content None (not done && aside.unsynced) aside) (come ∷ told.disk) (named_as (aside_of other) (Some bytes) false apart)
+          ∙ changed_there name (file_at name files) (with_content None (not done && aside.unsynced) aside) (come ∷ told.disk)
+          (named_as (aside_of other) (Some bytes) false apart)
           ∙ changed_here name (file_at name files) come told.disk (named_as other (file_at other told.files) true here)
           ∙ ap (λ (b : Bool). with_content (Some bytes) (b || (not done && (was other).unsynced)) (was other)) aside_whole
           ∙ ap (λ (f : ChangedFile). with_content (Some bytes) (not done && f.unsynced) f) (ap was (sym (same_name name other here)) ∙ left)
@@ -142,7 +153,8 @@ module _ (name : List ℕ) where
 
           by_unsynced : file.unsynced ≡ true → changed_file name reads (settled told.disk) ≡ cond file.unsynced file (unchanged name reads)
           by_unsynced e =
-              settled_stays name reads told.disk (ap (λ (f : ChangedFile). f.unsynced) left ∙ e) ∙ left ∙ sym (ap (λ (b : Bool). cond b file (unchanged name reads)) e)
+              settled_stays name reads told.disk (ap (λ (f : ChangedFile). f.unsynced) left ∙ e) ∙ left
+              ∙ sym (ap (λ (b : Bool). cond b file (unchanged name reads)) e)
 
           by_synced : file.unsynced ≡ false → changed_file name reads (settled told.disk) ≡ cond file.unsynced file (unchanged name reads)
           by_synced e =
@@ -160,27 +172,33 @@ module _ (name : List ℕ) where
       chosen_by (RenamedAside other done) files aside apart leaves put =
           split (is_name name other) (λ e. rw e (put other done refl e)) (λ e. rw e (left_apart (RenamedAside other done) files apart e refl leaves ∙ left))
       chosen_by (RemovedFile other done) files aside apart leaves put =
-          split (is_name name other) (λ e. rw e (removed_here other done files e)) (λ e. rw e (left_apart (RemovedFile other done) files tt e refl leaves ∙ left))
+          split (is_name name other) (λ e. rw e (removed_here other done files e))
+          (λ e. rw e (left_apart (RemovedFile other done) files tt e refl leaves ∙ left))
       chosen_by (SettledFiles true) files aside apart leaves put = settled_here files leaves
       chosen_by (SettledFiles false) files aside apart leaves put = left_apart (SettledFiles false) files tt refl refl leaves ∙ left
 
     -- a call that changes another file leaves nothing more of it
     module _ (sound : IsSound told) where
-      settled_stays_so : (files : List StoreFile) → LeavesFiles (SettledFiles true) told.files files → Stays name told (store_answered (SettledFiles true) files told)
-      settled_stays_so files leaves content may = by (left_of name told).unsynced refl (subst (λ (f : ChangedFile). MayBe f content) (settled_here (left_of name told) refl files leaves) may)
+      settled_stays_so : (files : List StoreFile) → LeavesFiles (SettledFiles true) told.files files
+          → Stays name told (store_answered (SettledFiles true) files told)
+      settled_stays_so files leaves content may =
+          by (left_of name told).unsynced refl (subst (λ (f : ChangedFile). MayBe f content) (settled_here (left_of name told) refl files leaves) may)
         where
           alone : MayBe (unchanged name (file_at name told.files)) content → MayLeave told name content
           alone (inl torn) = cc
           alone (inr (inl is)) = subst (MayLeave told name) (sym is) (sound.knows name).reads_so
           alone (inr (inr none)) = absurd none
 
-          by : (u : Bool) → (left_of name told).unsynced ≡ u → MayBe (cond u (left_of name told) (unchanged name (file_at name told.files))) content → MayLeave told name content
+          by : (u : Bool) → (left_of name told).unsynced ≡ u → MayBe (cond u (left_of name told) (unchanged name (file_at name told.files))) content
+              → MayLeave told name content
           by true e now = now
           by false e now = alone now
 
-      same_stays : (call : StoreCall) (files : List StoreFile) → IsApart name call → changes name call ≡ false → is_settling call ≡ false → LeavesFiles call told.files files
+      same_stays : (call : StoreCall) (files : List StoreFile) → IsApart name call → changes name call ≡ false → is_settling call ≡ false
+          → LeavesFiles call told.files files
           → Stays name told (store_answered call files told)
-      same_stays call files apart unlike going leaves content may = subst (λ (f : ChangedFile). MayBe f content) (left_apart call files apart unlike going leaves) may
+      same_stays call files apart unlike going leaves content may =
+          subst (λ (f : ChangedFile). MayBe f content) (left_apart call files apart unlike going leaves) may
 
       pub stays_apart : (call : StoreCall) (files : List StoreFile) → IsApart name call → changes name call ≡ false → LeavesFiles call told.files files
           → Stays name told (store_answered call files told)
@@ -195,11 +213,13 @@ module _ (name : List ℕ) where
 
 -- ---- asides
 
-pub aside_written : (told : StoreTold) (name bytes : List ℕ) (files : List StoreFile) → LeavesFiles (WroteAside name bytes true) told.files files → file_at (aside_of name) files ≡ Some bytes
+pub aside_written : (told : StoreTold) (name bytes : List ℕ) (files : List StoreFile) → LeavesFiles (WroteAside name bytes true) told.files files
+    → file_at (aside_of name) files ≡ Some bytes
 aside_written told name bytes files leaves =
     ap (file_at (aside_of name)) (done_files (WroteAside name bytes true) told.files files refl leaves) ∙ file_found (aside_of name) bytes told.files
 
-pub sync_files : (told : StoreTold) (name : List ℕ) (done : Bool) (files : List StoreFile) → LeavesFiles (SyncedAside name done) told.files files → files ≡ told.files
+pub sync_files : (told : StoreTold) (name : List ℕ) (done : Bool) (files : List StoreFile) → LeavesFiles (SyncedAside name done) told.files files
+    → files ≡ told.files
 sync_files told name done files (inl is) = is
 sync_files told name done files (inr kept) = kept.1
 
@@ -208,4 +228,5 @@ pub aside_synced : (told : StoreTold) (name bytes : List ℕ) → file_at (aside
     → changed_file (aside_of name) r (synced (aside_of name) (file_at (aside_of name) told.files) told.disk) ≡ unchanged (aside_of name) r
 aside_synced told name bytes there r =
     subst (λ (o : Option (List ℕ)). changed_file (aside_of name) r (synced (aside_of name) o told.disk) ≡ unchanged (aside_of name) r) (sym there)
-    (filter_goes changed_name (λ f. f) (unchanged (aside_of name) r) (aside_of name) (λ f. not (is_name (aside_of name) f.name)) (λ x here. ap not here) told.disk)
+    (filter_goes changed_name (λ f. f) (unchanged (aside_of name) r) (aside_of name) (λ f. not (is_name (aside_of name) f.name))
+    (λ x here. ap not here) told.disk)

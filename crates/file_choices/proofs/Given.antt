@@ -78,7 +78,8 @@ module _ (names : List (List ℕ)) (name : List ℕ) (Given : Option (List ℕ) 
   one_more told given done sound is content (inr (inl same)) = inr (subst Given (sym same) is)
   one_more told given done sound is content (inr (inr among)) = inl (inr among)
 
-  put_gives : (other : List ℕ) (done : Bool) (files : List StoreFile) (saving : Saving) (c : Chosen) → IsSound c.told → MayCome names (RenamedAside other done) saving
+  put_gives : (other : List ℕ) (done : Bool) (files : List StoreFile) (saving : Saving) (c : Chosen) → IsSound c.told
+      → MayCome names (RenamedAside other done) saving
       → Stands names name saving c → Held saving → is_name name (aside_of other) ≡ false → is_name name other ≡ true
       → StaysOr c.told (store_answered (RenamedAside other done) files c.told)
   put_gives other done files Idle c sound may stands held apart here = absurd may.0
@@ -90,30 +91,42 @@ module _ (names : List (List ℕ)) (name : List ℕ) (Given : Option (List ℕ) 
       λ content left. one_more c.told (Some bytes) done sound (held (subst (λ (n : List ℕ). is_name name n ≡ true) (sym same) here)) content
       (subst (λ (f : ChangedFile). MayBe f content) (renamed_here name c.told (left_of name c.told) refl other bytes done files here apart is.0.0 is.1) left)
 
-  stays_or : (call : StoreCall) (files : List StoreFile) (c : Chosen) → IsSound c.told → IsApart name call → changes name call ≡ false → LeavesFiles call c.told.files files
+  stays_or : (call : StoreCall) (files : List StoreFile) (c : Chosen) → IsSound c.told → IsApart name call → changes name call ≡ false
+      → LeavesFiles call c.told.files files
       → StaysOr c.told (store_answered call files c.told)
   stays_or call files c sound apart unlike leaves content left = inl (stays_apart name c.told sound call files apart unlike leaves content left)
 
-  call_gives : (call : StoreCall) (files : List StoreFile) (saving : Saving) (c : Chosen) → IsSound c.told → MayCome names call saving → Stands names name saving c → Held saving
+  call_gives : (call : StoreCall) (files : List StoreFile) (saving : Saving) (c : Chosen) → IsSound c.told → MayCome names call saving
+      → Stands names name saving c → Held saving
       → IsApart name call → Gives call → LeavesFiles call c.told.files files → StaysOr c.told (store_answered call files c.told)
   call_gives (ListedAsides listed) files saving c sound may stands held apart gives leaves = stays_or (ListedAsides listed) files c sound apart refl leaves
-  call_gives (ReadFile other reading) files saving c sound may stands held apart gives leaves = stays_or (ReadFile other reading) files c sound apart refl leaves
-  call_gives (WroteAside other bytes done) files saving c sound may stands held apart gives leaves = stays_or (WroteAside other bytes done) files c sound apart refl leaves
-  call_gives (SyncedAside other done) files saving c sound may stands held apart gives leaves = stays_or (SyncedAside other done) files c sound apart refl leaves
+  call_gives (ReadFile other reading) files saving c sound may stands held apart gives leaves =
+      stays_or (ReadFile other reading) files c sound apart refl leaves
+  call_gives (WroteAside other bytes done) files saving c sound may stands held apart gives leaves =
+      stays_or (WroteAside other bytes done) files c sound apart refl leaves
+  call_gives (SyncedAside other done) files saving c sound may stands held apart gives leaves =
+      stays_or (SyncedAside other done) files c sound apart refl leaves
   call_gives (RenamedAside other done) files saving c sound may stands held apart gives leaves =
-      split (is_name name other) (λ e. put_gives other done files saving c sound may stands held apart e) (λ e. stays_or (RenamedAside other done) files c sound apart e leaves)
+      split (is_name name other) (λ e. put_gives other done files saving c sound may stands held apart e)
+      (λ e. stays_or (RenamedAside other done) files c sound apart e leaves)
   call_gives (RemovedFile other done) files saving c sound may stands held apart gives leaves =
       split (is_name name other)
-      (λ e content left. one_more c.told None done sound (gives e) content (subst (λ (f : ChangedFile). MayBe f content) (removed_here name c.told (left_of name c.told) refl other done files e) left))
+      (λ e content left. one_more c.told None done sound (gives e) content
+      (subst (λ (f : ChangedFile). MayBe f content) (removed_here name c.told (left_of name c.told) refl other done files e) left))
       (λ e. stays_or (RemovedFile other done) files c sound apart e leaves)
   call_gives (SettledFiles done) files saving c sound may stands held apart gives leaves = stays_or (SettledFiles done) files c sound apart refl leaves
 
-  calls_give : (failing : Option StoreFails) (calls : List StoreCall) (saving : Saving) (c : Chosen) (after : StoreTold) (made : ℕ) → AreInTurn names calls saving
-      → AllByRecursion (IsApart name) calls → AllByRecursion Gives calls → IsSound c.told → Stands names name saving c → Held saving → Goes failing (take made calls) c.told after
+  calls_give : (failing : Option StoreFails) (calls : List StoreCall) (saving : Saving) (c : Chosen) (after : StoreTold) (made : ℕ)
+      → AreInTurn names calls saving
+      → AllByRecursion (IsApart name) calls → AllByRecursion Gives calls → IsSound c.told → Stands names name saving c → Held saving
+      → Goes failing (take made calls) c.told after
       → StaysOr c.told after
-  calls_give failing [] saving c after zero turn apart gives sound stands held goes content left = inl (subst (λ (t : StoreTold). MayLeave t name content) goes left)
-  calls_give failing [] saving c after (suc made) turn apart gives sound stands held goes content left = inl (subst (λ (t : StoreTold). MayLeave t name content) goes left)
-  calls_give failing (call ∷ calls) saving c after zero turn apart gives sound stands held goes content left = inl (subst (λ (t : StoreTold). MayLeave t name content) goes left)
+  calls_give failing [] saving c after zero turn apart gives sound stands held goes content left =
+      inl (subst (λ (t : StoreTold). MayLeave t name content) goes left)
+  calls_give failing [] saving c after (suc made) turn apart gives sound stands held goes content left =
+      inl (subst (λ (t : StoreTold). MayLeave t name content) goes left)
+  calls_give failing (call ∷ calls) saving c after zero turn apart gives sound stands held goes content left =
+      inl (subst (λ (t : StoreTold). MayLeave t name content) goes left)
   calls_give failing (call ∷ calls) saving c after (suc made) turn apart gives sound stands held goes content left =
       by (calls_give failing calls (saving_after call saving) next after made now.1 apart.1 gives.1 (sound_after c.told sound call goes.0 leaves)
       (stands_next names name call goes.0 saving c stands leaves) (held_next call saving gives.0 held) goes.2 content left)
@@ -131,13 +144,15 @@ module _ (names : List (List ℕ)) (name : List ℕ) (Given : Option (List ℕ) 
       by (inl was) = call_gives call goes.0 saving c sound now.0 stands held apart.0 gives.0 leaves content was
       by (inr given) = inr given
 
-  pub left_or_given : (failing : Option StoreFails) (calls : List StoreCall) (before after : StoreTold) (made : ℕ) → AreInTurn names calls Idle → AllByRecursion (IsApart name) calls
+  pub left_or_given : (failing : Option StoreFails) (calls : List StoreCall) (before after : StoreTold) (made : ℕ) → AreInTurn names calls Idle
+      → AllByRecursion (IsApart name) calls
       → AllByRecursion Gives calls → IsSound before → Goes failing (take made calls) before after → StaysOr before after
   left_or_given failing calls before after made turn apart gives sound goes =
       calls_give failing calls Idle (chosen_at name before) after made turn apart gives sound tt tt goes
 
 -- so it is of all that the calls give
-all_given : (names : List (List ℕ)) (name : List ℕ) (Given : Option (List ℕ) → Type 0) (calls : List StoreCall) → ((content : Option (List ℕ)) → IsAmong content (given_by name calls) → Given content)
+all_given : (names : List (List ℕ)) (name : List ℕ) (Given : Option (List ℕ) → Type 0) (calls : List StoreCall)
+    → ((content : Option (List ℕ)) → IsAmong content (given_by name calls) → Given content)
     → AllByRecursion (Gives names name Given) calls
 all_given names name Given [] is = tt
 all_given names name Given (ListedAsides listed ∷ calls) is = (tt, all_given names name Given calls is)
@@ -166,12 +181,16 @@ only_given failing names name calls before after turn apart sound made goes =
     (all_given names name (λ content. IsAmong content (given_by name calls)) calls (λ content among. among)) sound goes
 
 pub spared_untouched : SparedIsUntouched
-spared_untouched failing name [] before after spares sound zero goes = subst (IsUntouched name before) (sym goes) (record { reads = refl; stays = λ content may. may })
-spared_untouched failing name [] before after spares sound (suc made) goes = subst (IsUntouched name before) (sym goes) (record { reads = refl; stays = λ content may. may })
-spared_untouched failing name (call ∷ calls) before after spares sound zero goes = subst (IsUntouched name before) (sym goes) (record { reads = refl; stays = λ content may. may })
+spared_untouched failing name [] before after spares sound zero goes =
+    subst (IsUntouched name before) (sym goes) (record { reads = refl; stays = λ content may. may })
+spared_untouched failing name [] before after spares sound (suc made) goes =
+    subst (IsUntouched name before) (sym goes) (record { reads = refl; stays = λ content may. may })
+spared_untouched failing name (call ∷ calls) before after spares sound zero goes =
+    subst (IsUntouched name before) (sym goes) (record { reads = refl; stays = λ content may. may })
 spared_untouched failing name (call ∷ calls) before after spares sound (suc made) goes =
     let leaves : LeavesFiles call before.files goes.0 = leaves_files failing call before.files goes.0 goes.1.leaves in
-    let rest = spared_untouched failing name calls (store_answered call goes.0 before) after spares.1 (sound_after before sound call goes.0 leaves) made goes.2 in
+    let rest =
+    spared_untouched failing name calls (store_answered call goes.0 before) after spares.1 (sound_after before sound call goes.0 leaves) made goes.2 in
     record {
       reads = rest.reads ∙ reads_stay name call before.files goes.0 spares.0.0 spares.0.1 leaves;
       stays = λ content may. stays_apart name before sound call goes.0 spares.0.0 spares.0.1 leaves content (rest.stays content may);

@@ -23,7 +23,8 @@ answered_more failing now calls more (Some old) mid new same before here =
     (at.0, at.1, goes_more failing calls more old before.0 at.0 before.2 at.2)
 
 -- a front of calls in their turn is such
-pub front_in_turn : (names : List (List ℕ)) (calls : List StoreCall) (saving : Saving) (made : ℕ) → AreInTurn names calls saving → AreInTurn names (take made calls) saving
+pub front_in_turn : (names : List (List ℕ)) (calls : List StoreCall) (saving : Saving) (made : ℕ) → AreInTurn names calls saving
+    → AreInTurn names (take made calls) saving
 front_in_turn names [] saving zero turn = tt
 front_in_turn names [] saving (suc made) turn = tt
 front_in_turn names (call ∷ calls) saving zero turn = tt

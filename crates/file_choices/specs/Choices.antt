@@ -13,16 +13,18 @@ abbrev pub with_aside : Option (List ℕ) → (unsynced : Bool) → ChangedFile 
 with_aside None unsynced file = file
 with_aside (Some bytes) unsynced file = with_content (Some bytes) unsynced file
 
--- the choices of the file of a name after a call, by what it read as before it and the text last written aside: a removal adds
--- "no file". A settling leaves what the file reads as alone, but of a file that took the place of no synced aside it takes
--- nothing away. Nor does a call that failed.
+-- the choices of the file of a name after a call, by what it read as before it and the text last written aside: a
+-- removal adds "no file". A settling leaves what the file reads as alone, but of a file that took the place of no
+-- synced aside it takes nothing away. Nor does a call that failed.
 abbrev pub choices_after : (name : List ℕ) → StoreCall → (reads aside : Option (List ℕ)) → ChangedFile → ChangedFile
 choices_after name (ListedAsides names) reads aside file = file
 choices_after name (ReadFile other reading) reads aside file = file
 choices_after name (WroteAside other bytes done) reads aside file = file
 choices_after name (SyncedAside other done) reads aside file = file
-choices_after name (RenamedAside other done) reads aside file = if is_name name other then with_aside aside (not done && file.unsynced) file else file
-choices_after name (RemovedFile other done) reads aside file = if is_name name other then with_content None (not done && file.unsynced) file else file
+choices_after name (RenamedAside other done) reads aside file =
+    if is_name name other then with_aside aside (not done && file.unsynced) file else file
+choices_after name (RemovedFile other done) reads aside file =
+    if is_name name other then with_content None (not done && file.unsynced) file else file
 choices_after name (SettledFiles true) reads aside file = if file.unsynced then file else unchanged name reads
 choices_after name (SettledFiles false) reads aside file = file
 
@@ -30,10 +32,14 @@ abbrev pub aside_after : (name : List ℕ) → StoreCall → Option (List ℕ) �
 aside_after name (WroteAside other bytes done) aside = if is_name name other then Some bytes else aside
 aside_after name call aside = aside
 
--- what the file reads as after a call, where that is known: a renaming or a removal of it that failed may have been done
-abbrev pub reads_after : (name : List ℕ) → StoreCall → (aside : Option (List ℕ)) → Option (Option (List ℕ)) → Option (Option (List ℕ))
-reads_after name (RenamedAside other done) aside reads = if is_name name other then (if done then Some aside else None) else reads
-reads_after name (RemovedFile other done) aside reads = if is_name name other then (if done then Some None else None) else reads
+-- what the file reads as after a call, where that is known: a renaming or a removal of it that failed may have been
+-- done
+abbrev pub reads_after : (name : List ℕ) → StoreCall → (aside : Option (List ℕ)) → Option (Option (List ℕ))
+    → Option (Option (List ℕ))
+reads_after name (RenamedAside other done) aside reads =
+    if is_name name other then (if done then Some aside else None) else reads
+reads_after name (RemovedFile other done) aside reads =
+    if is_name name other then (if done then Some None else None) else reads
 reads_after name call aside reads = reads
 
 abbrev pub is_read : Reading → Bool
@@ -65,8 +71,8 @@ is_alone (content ∷ other ∷ more) = false
 abbrev pub is_single : ChangedFile → Bool
 is_single file = not file.unsynced && (not file.torn && is_alone file.contents)
 
--- what a store tells, and of one file the text last written aside, what it reads as where that is known, its choices, and whether no
--- call failed since it had but one
+-- what a store tells, and of one file the text last written aside, what it reads as where that is known, its choices,
+-- and whether no call failed since it had but one
 pub record Chosen : Type 0 where
   pub told : StoreTold
   pub aside : Option (List ℕ)
@@ -78,7 +84,13 @@ pub record Chosen : Type 0 where
 abbrev pub chosen_at : (name : List ℕ) → StoreTold → Chosen
 chosen_at name told =
     let file = changed_file name (file_at name told.files) told.disk in
-    record { told = told; aside = file_at (aside_of name) told.files; reads = Some (file_at name told.files); file = file; calm = is_single file }
+    record {
+      told = told;
+      aside = file_at (aside_of name) told.files;
+      reads = Some (file_at name told.files);
+      file = file;
+      calm = is_single file;
+    }
 
 abbrev pub chosen_after : (name : List ℕ) → StoreCall → List StoreFile → Chosen → Chosen
 chosen_after name call files old = record {
@@ -93,4 +105,5 @@ chosen_after name call files old = record {
 abbrev pub Chooses : Option StoreFails → (name : List ℕ) → List StoreCall → Chosen → Chosen → Type 0
 Chooses failing name [] old new = new ≡ old
 Chooses failing name (call ∷ calls) old new =
-    (files : List StoreFile) × IsAnswered failing call old.told files × Chooses failing name calls (chosen_after name call files old) new
+    (files : List StoreFile) × IsAnswered failing call old.told files
+    × Chooses failing name calls (chosen_after name call files old) new

@@ -1,13 +1,13 @@
--- Calls in their turn: an aside is put in place only right after it was written and synced, and what was put in place or removed is
--- settled before anything else is asked.
+-- Calls in their turn: an aside is put in place only right after it was written and synced, and what was put in place
+-- or removed is settled before anything else is asked.
 use Rattle.std.specs.Prelude.{ℕ, ◌≡◌, Bool, true, ◌||◌, List, [], ◌∷◌, Some, if◌then◌else◌}
 use Rattle.std.specs.List.{AllByRecursion, list_any}
 use Rattle.world.specs.FileNames.{is_name}
 use Rattle.world.specs.FileLists.{is_aside}
 use Rattle.world.specs.StoreCalls.{StoreCall, ListedAsides, ReadFile, WroteAside, SyncedAside, RenamedAside, RemovedFile, SettledFiles}
 
--- how far the saving or the removal of a file went: nothing of it stands, its aside was written, its aside was synced, or it was put
--- in place or removed
+-- how far the saving or the removal of a file went: nothing of it stands, its aside was written, its aside was synced,
+-- or it was put in place or removed
 pub data Saving : Type 0 where
   Idle : Saving
   Written : (name bytes : List ℕ) → Saving
@@ -47,7 +47,8 @@ IsSyncedFor name Put = ⊥
 abbrev pub is_kept : (names : List (List ℕ)) → (name : List ℕ) → Bool
 is_kept names name = list_any (is_name name) names
 
--- A call may come where this went before it. It puts in place, or removes, one of the files that are kept, or it removes an aside.
+-- A call may come where this went before it. It puts in place, or removes, one of the files that are kept, or it
+-- removes an aside.
 abbrev pub MayCome : (names : List (List ℕ)) → StoreCall → Saving → Type 0
 MayCome names (ListedAsides listed) saving = IsFree saving
 MayCome names (ReadFile name reading) saving = IsFree saving
@@ -65,4 +66,5 @@ NamesAsides call = Unit {0}
 -- Each call comes in its turn, where the listings before it named asides alone.
 abbrev pub AreInTurn : (names : List (List ℕ)) → List StoreCall → Saving → Type 0
 AreInTurn names [] saving = Unit {0}
-AreInTurn names (call ∷ calls) saving = NamesAsides call → MayCome names call saving × AreInTurn names calls (saving_after call saving)
+AreInTurn names (call ∷ calls) saving =
+    NamesAsides call → MayCome names call saving × AreInTurn names calls (saving_after call saving)

@@ -22,7 +22,8 @@ IsDoneAsTold (Some fails) (ListedAsides names) told = fails_at fails (length tol
 IsDoneAsTold (Some fails) (ReadFile name Unread) told = fails_at fails (length told.calls + 1) ≡ true
 IsDoneAsTold (Some fails) (ReadFile name reading) told = fails_at fails (length told.calls + 1) ≡ false
 
--- A listing that didn't fail names all asides, and no other file; a reading that didn't fail gives the file as it stands.
+-- A listing that didn't fail names all asides, and no other file; a reading that didn't fail gives the file as it
+-- stands.
 abbrev pub IsTrueOf : StoreCall → StoreTold → Type 0
 IsTrueOf (ListedAsides None) told = Unit {0}
 IsTrueOf (ListedAsides (Some names)) told = names ≡ asides told.files
@@ -34,14 +35,17 @@ IsTrueOf (RemovedFile name done) told = Unit {0}
 IsTrueOf (SettledFiles done) told = Unit {0}
 
 -- how a call was answered, and the files that it left
-pub record IsAnswered (failing : Option StoreFails) (call : StoreCall) (told : StoreTold) (files : List StoreFile) : Type 0 where
+pub record IsAnswered (failing : Option StoreFails) (call : StoreCall) (told : StoreTold)
+    (files : List StoreFile) : Type 0 where
   pub done : IsDoneAsTold failing call told
   pub truly : IsTrueOf call told
   pub leaves : LeavesAsTold failing call told.files files
 
 abbrev pub Goes : Option StoreFails → List StoreCall → StoreTold → StoreTold → Type 0
 Goes failing [] old new = new ≡ old
-Goes failing (call ∷ calls) old new = (files : List StoreFile) × IsAnswered failing call old files × Goes failing calls (store_answered call files old) new
+Goes failing (call ∷ calls) old new =
+    (files : List StoreFile) × IsAnswered failing call old files
+    × Goes failing calls (store_answered call files old) new
 
 abbrev pub Answered : Option StoreFails → List StoreCall → Option StoreTold → Option StoreTold → Type 0
 Answered failing calls None new = new ≡ None

@@ -76,13 +76,15 @@ module _ (names : List (List ℕ)) where
   abbrev Always : {A : Type 0} → (A → Type 0) → Asks A → Type 0
   Always Gives asks = (saving : Saving) → IsFree saving → InTurn Gives asks saving
 
-  turn_then : {A B : Type 0} (P : A → Type 0) (Q : B → Type 0) (asks : Asks A) (more : A → Asks B) (saving : Saving) → InTurn P asks saving → ((x : A) → P x → Always Q (more x))
+  turn_then : {A B : Type 0} (P : A → Type 0) (Q : B → Type 0) (asks : Asks A) (more : A → Asks B) (saving : Saving) → InTurn P asks saving
+      → ((x : A) → P x → Always Q (more x))
       → InTurn Q (after asks more) saving
   turn_then P Q (Done x) more saving first later = later x first.1 saving first.0
   turn_then P Q (Then ask next) more saving first later =
       λ answer lists. ((first answer lists).0, turn_then P Q (next answer) more (then_saving (made ask answer) saving) (first answer lists).1 later)
 
-  always_then : {A B : Type 0} (P : A → Type 0) (Q : B → Type 0) (asks : Asks A) (more : A → Asks B) → Always P asks → ((x : A) → P x → Always Q (more x)) → Always Q (after asks more)
+  always_then : {A B : Type 0} (P : A → Type 0) (Q : B → Type 0) (asks : Asks A) (more : A → Asks B) → Always P asks → ((x : A) → P x → Always Q (more x))
+      → Always Q (after asks more)
   always_then P Q asks more first later saving free = turn_then P Q asks more saving (first saving free) later
 
   done_always : {A : Type 0} (P : A → Type 0) (x : A) → P x → Always P (Done x)
@@ -98,7 +100,8 @@ module _ (names : List (List ℕ)) where
 
   easy : {A : Type 0} (asks : Asks A) → AsksOnly IsEasy asks → Always Any asks
   easy (Done x) only saving free = (free, tt)
-  easy (Then ask next) only saving free = λ answer lists. ((only.0 answer saving free).0, easy (next answer) (only.1 answer) (then_saving (made ask answer) saving) (only.0 answer saving free).1)
+  easy (Then ask next) only saving free =
+      λ answer lists. ((only.0 answer saving free).0, easy (next answer) (only.1 answer) (then_saving (made ask answer) saving) (only.0 answer saving free).1)
 
   link_easy : LinkAsks IsEasy
   link_easy = record { offer = λ iface frame answer saving free. (tt, free) }
@@ -147,11 +150,15 @@ module _ (names : List (List ℕ)) where
   abbrev LoadedAs : Managed → Loaded → Type 0
   LoadedAs managed one = names_of (files_by one) ≡ filed_names (filed_for managed)
 
-  loaded_as : (m : Managed) (lease4 lease6 : Option Reading) → ReadAs (runs_dhcp4 m.conf) (lease4_file m) lease4 → ReadAs (runs_dhcp6 m.conf) (lease6_file m) lease6 → LoadedAs m (loaded m lease4 lease6)
+  loaded_as : (m : Managed) (lease4 lease6 : Option Reading) → ReadAs (runs_dhcp4 m.conf) (lease4_file m) lease4
+      → ReadAs (runs_dhcp6 m.conf) (lease6_file m) lease6 → LoadedAs m (loaded m lease4 lease6)
   loaded_as m lease4 lease6 is4 is6 =
-      map-append (λ (file : KeptFile). file.name) (file_with (Lease4 m.spec.index.number) (lease4_file m) lease4) (file_with (Lease6 m.spec.index.number) (lease6_file m) lease6)
+      map-append (λ (file : KeptFile). file.name) (file_with (Lease4 m.spec.index.number) (lease4_file m) lease4)
+      (file_with (Lease6 m.spec.index.number) (lease6_file m) lease6)
       ∙ ap₂ (λ (a b : List (List ℕ)). a ++ b) (is4 (Lease4 m.spec.index.number)) (is6 (Lease6 m.spec.index.number))
-      ∙ sym (map-append (λ (f : Filed). f.name) (filed_if (runs_dhcp4 m.conf) (Lease4 m.spec.index.number) (lease4_file m)) (filed_if (runs_dhcp6 m.conf) (Lease6 m.spec.index.number) (lease6_file m)))
+      ∙ sym
+      (map-append (λ (f : Filed). f.name) (filed_if (runs_dhcp4 m.conf) (Lease4 m.spec.index.number) (lease4_file m))
+      (filed_if (runs_dhcp6 m.conf) (Lease6 m.spec.index.number) (lease6_file m)))
 
   one_always : (m : Managed) → Always (LoadedAs m) (loading_one m)
   one_always m =
@@ -166,7 +173,8 @@ module _ (names : List (List ℕ)) where
   abbrev AllLoaded : List Managed → List Loaded → Type 0
   AllLoaded managed ifaces = names_of (flat_map files_by ifaces) ≡ filed_names (flat_map filed_for managed)
 
-  more_loaded : (m : Managed) (managed : List Managed) (first : Loaded) (rest : List Loaded) → LoadedAs m first → AllLoaded managed rest → AllLoaded (m ∷ managed) (first ∷ rest)
+  more_loaded : (m : Managed) (managed : List Managed) (first : Loaded) (rest : List Loaded) → LoadedAs m first → AllLoaded managed rest
+      → AllLoaded (m ∷ managed) (first ∷ rest)
   more_loaded m managed first rest one others =
       map-append (λ (file : KeptFile). file.name) (files_by first) (flat_map files_by rest)
       ∙ ap₂ (λ (a b : List (List ℕ)). a ++ b) one others ∙ sym (map-append (λ (f : Filed). f.name) (filed_for m) (flat_map filed_for managed))
@@ -181,7 +189,8 @@ module _ (names : List (List ℕ)) where
   abbrev FilesAs : List Managed → FilesLoaded → Type 0
   FilesAs managed files = names_of (files_of managed files) ≡ kept_names managed
 
-  files_as : (managed : List Managed) (duid : Option Reading) (ifaces : List Loaded) (resolver : Reading) → ReadAs (some_need_duid managed) duid_file duid → AllLoaded managed ifaces
+  files_as : (managed : List Managed) (duid : Option Reading) (ifaces : List Loaded) (resolver : Reading) → ReadAs (some_need_duid managed) duid_file duid
+      → AllLoaded managed ifaces
       → FilesAs managed (files_loaded duid ifaces resolver)
   files_as managed duid ifaces resolver is all =
       let files : FilesLoaded = files_loaded duid ifaces resolver in
@@ -190,9 +199,12 @@ module _ (names : List (List ℕ)) where
       ∙ ap₂ (λ (a b : List (List ℕ)). a ++ b) (is (Duid (duid_with managed files)) ∙ unkept (some_need_duid managed))
       (map-append (λ (file : KeptFile). file.name) (flat_map files_by ifaces) last ∙ ap (λ (a : List (List ℕ)). a ++ resolver_file ∷ []) all
       ∙ sym (map-append (λ (f : Filed). f.name) (flat_map filed_for managed) (filed_if true Resolver resolver_file)))
-      ∙ sym (map-append (λ (f : Filed). f.name) (filed_if (some_need_duid managed) (Duid []) duid_file) (flat_map filed_for managed ++ filed_if true Resolver resolver_file))
+      ∙ sym
+      (map-append (λ (f : Filed). f.name) (filed_if (some_need_duid managed) (Duid []) duid_file)
+      (flat_map filed_for managed ++ filed_if true Resolver resolver_file))
     where
-      unkept : (b : Bool) → filed_names (filed_if b (Duid (duid_with managed (files_loaded duid ifaces resolver))) duid_file) ≡ filed_names (filed_if b (Duid []) duid_file)
+      unkept : (b : Bool)
+          → filed_names (filed_if b (Duid (duid_with managed (files_loaded duid ifaces resolver))) duid_file) ≡ filed_names (filed_if b (Duid []) duid_file)
       unkept true = refl
       unkept false = refl
 
@@ -200,7 +212,8 @@ module _ (names : List (List ℕ)) where
   files_always managed =
       let resolver_asks : Option Reading → List Loaded → Asks FilesLoaded =
       λ duid ifaces. Then (Read resolver_file) (λ resolver. Done (files_loaded duid ifaces resolver)) in
-      always_then (ReadAs (some_need_duid managed) duid_file) (FilesAs managed) (reading_if (some_need_duid managed) duid_file) (λ duid. after (loading managed) (resolver_asks duid))
+      always_then (ReadAs (some_need_duid managed) duid_file) (FilesAs managed) (reading_if (some_need_duid managed) duid_file)
+      (λ duid. after (loading managed) (resolver_asks duid))
       (reading_always (some_need_duid managed) duid_file)
       (λ duid is. always_then (AllLoaded managed) (FilesAs managed) (loading managed) (resolver_asks duid) (loading_always managed)
       (λ ifaces all saving free. λ resolver lists. (free, (tt, files_as managed duid ifaces resolver is all))))
@@ -233,8 +246,11 @@ module _ (names : List (List ℕ)) where
     renaming_turn : (bytes : List ℕ) → InTurn Any (renaming name) (Synced name bytes)
     renaming_turn bytes = λ renamed lists. ((name_itself name, kept), settled_turn renamed (cond renamed Put Idle) (renamed_free renamed))
 
-    synced_turn : (bytes : List ℕ) (done : Bool) → InTurn Any (if_done done (renaming name)) (saving_after (StoreCall.SyncedAside name done) (Written name bytes))
-    synced_turn bytes true = subst (λ (saving : Saving). InTurn Any (renaming name) saving) (sym (ap (λ (b : Bool). cond b (Synced name bytes) Idle) (name_itself name))) (renaming_turn bytes)
+    synced_turn : (bytes : List ℕ) (done : Bool)
+        → InTurn Any (if_done done (renaming name)) (saving_after (StoreCall.SyncedAside name done) (Written name bytes))
+    synced_turn bytes true =
+        subst (λ (saving : Saving). InTurn Any (renaming name) saving) (sym (ap (λ (b : Bool). cond b (Synced name bytes) Idle) (name_itself name)))
+        (renaming_turn bytes)
     synced_turn bytes false = (tt, tt)
 
     written_turn : (bytes : List ℕ) (done : Bool) → InTurn Any (if_done done (syncing name)) (cond done (Written name bytes) Idle)
@@ -248,7 +264,8 @@ module _ (names : List (List ℕ)) where
     bringing_always : (wanted : Option (List ℕ)) → Always Any (bringing name wanted)
     bringing_always (Some bytes) saving free = λ written lists. (free, written_turn bytes written)
     bringing_always None saving free =
-        λ removed lists. ((free, or_kept (is_aside name)), settled_turn removed (cond (is_aside name) Idle (cond removed Put Idle)) (removed_free (is_aside name) removed))
+        λ removed lists.
+        ((free, or_kept (is_aside name)), settled_turn removed (cond (is_aside name) Idle (cond removed Put Idle)) (removed_free (is_aside name) removed))
 
   abbrev SameName : KeptFile → KeptFile → Type 0
   SameName file later = later.name ≡ file.name
@@ -256,19 +273,23 @@ module _ (names : List (List ℕ)) where
   kept_always : (wanted : Option (List ℕ)) (file : KeptFile) → is_kept names file.name ≡ true → Always (SameName file) (keeping_one wanted file)
   kept_always wanted file kept =
       let then_known : Bool → Asks KeptFile = λ done. Done (record file { known = known_after wanted done }) in
-      gated (Always (SameName file)) (is_settled file.keeps file.known wanted) (Done file) (after (bringing file.name wanted) then_known) (done_always (SameName file) file refl)
+      gated (Always (SameName file)) (is_settled file.keeps file.known wanted) (Done file) (after (bringing file.name wanted) then_known)
+      (done_always (SameName file) file refl)
       (always_then Any (SameName file) (bringing file.name wanted) then_known (bringing_always file.name kept wanted)
       (λ done any. done_always (SameName file) (record file { known = known_after wanted done }) refl))
 
   abbrev SameNames : List KeptFile → List KeptFile → Type 0
   SameNames files later = names_of later ≡ names_of files
 
-  keeping_always : (ifaces : List Iface) (files : List KeptFile) → AllByRecursion (λ (file : KeptFile). is_kept names file.name ≡ true) files → Always (SameNames files) (keeping ifaces files)
+  keeping_always : (ifaces : List Iface) (files : List KeptFile) → AllByRecursion (λ (file : KeptFile). is_kept names file.name ≡ true) files
+      → Always (SameNames files) (keeping ifaces files)
   keeping_always ifaces [] kept = done_always (SameNames []) [] refl
   keeping_always ifaces (file ∷ files) kept =
-      always_then (SameName file) (SameNames (file ∷ files)) (keeping_one (wanted_in ifaces file.keeps) file) (λ first. after (keeping ifaces files) (λ rest. Done (first ∷ rest)))
+      always_then (SameName file) (SameNames (file ∷ files)) (keeping_one (wanted_in ifaces file.keeps) file)
+      (λ first. after (keeping ifaces files) (λ rest. Done (first ∷ rest)))
       (kept_always (wanted_in ifaces file.keeps) file kept.0)
-      (λ first same. always_then (SameNames files) (SameNames (file ∷ files)) (keeping ifaces files) (λ rest. Done (first ∷ rest)) (keeping_always ifaces files kept.1)
+      (λ first same. always_then (SameNames files) (SameNames (file ∷ files)) (keeping ifaces files) (λ rest. Done (first ∷ rest))
+      (keeping_always ifaces files kept.1)
       (λ rest sames. done_always (SameNames (file ∷ files)) (first ∷ rest) (ap₂ (λ (n : List ℕ) (ns : List (List ℕ)). n ∷ ns) same sames)))
 
 -- ---- the opening, and a turn
@@ -299,19 +320,27 @@ module _ (names : List (List ℕ)) where
   acting_always : (managed : List Managed) (outlook : Outlook) (step : ClientStep) (moment : ℕ) (stop : Option ℕ) → names_of outlook.files ≡ names
       → Always names KeepsNames (acting managed outlook step moment stop)
   acting_always managed outlook step moment stop are =
-      always_then names (Any names) KeepsNames (offering step.sends 0) _ (easy names (offering step.sends 0) (offering_only (IsEasy names) (link_easy names) step.sends 0))
-      (λ unsent any. always_then names (Any names) KeepsNames (hosting managed (rows_of step.client) outlook.known) _ (easy names _ (hosting_only (IsEasy names) (host_easy names) managed (rows_of step.client) outlook.known))
-      (λ known any. always_then names (Any names) KeepsNames (hooking moment step.jobs outlook.hooks) _ (easy names _ (hooking_only (IsEasy names) (hooks_easy names) moment step.jobs outlook.hooks))
-      (λ hooks any. always_then names (SameNames names outlook.files) KeepsNames (keeping step.client.ifaces outlook.files) _ (keeping_always names step.client.ifaces outlook.files (all_kept names outlook.files are))
+      always_then names (Any names) KeepsNames (offering step.sends 0) _
+      (easy names (offering step.sends 0) (offering_only (IsEasy names) (link_easy names) step.sends 0))
+      (λ unsent any. always_then names (Any names) KeepsNames (hosting managed (rows_of step.client) outlook.known) _
+      (easy names _ (hosting_only (IsEasy names) (host_easy names) managed (rows_of step.client) outlook.known))
+      (λ known any. always_then names (Any names) KeepsNames (hooking moment step.jobs outlook.hooks) _
+      (easy names _ (hooking_only (IsEasy names) (hooks_easy names) moment step.jobs outlook.hooks))
+      (λ hooks any. always_then names (SameNames names outlook.files) KeepsNames (keeping step.client.ifaces outlook.files) _
+      (keeping_always names step.client.ifaces outlook.files (all_kept names outlook.files are))
       (λ files same saving free. (free, same ∙ are)))))
 
-  turn_always : (managed : List Managed) (life : Life) (wake : Wake) (bytes : List ℕ) → KeepsNames life → Always names KeepsNames (turn_asks managed life wake bytes)
+  turn_always : (managed : List Managed) (life : Life) (wake : Wake) (bytes : List ℕ) → KeepsNames life
+      → Always names KeepsNames (turn_asks managed life wake bytes)
   unfolding turn_asks
   turn_always managed life wake bytes are =
-      always_then names (Any names) KeepsNames (polling (turn_moment life wake) life.hooks) _ (easy names _ (polling_only (IsEasy names) (hooks_easy names) (turn_moment life wake) life.hooks))
-      (λ hooks any. acting_always managed (outlook_with life hooks) (step_of life wake bytes) (turn_moment life wake) (stop_after life.stop wake.event (turn_moment life wake)) are)
+      always_then names (Any names) KeepsNames (polling (turn_moment life wake) life.hooks) _
+      (easy names _ (polling_only (IsEasy names) (hooks_easy names) (turn_moment life wake) life.hooks))
+      (λ hooks any. acting_always managed (outlook_with life hooks) (step_of life wake bytes) (turn_moment life wake)
+      (stop_after life.stop wake.event (turn_moment life wake)) are)
 
-opening_always : (managed : List Managed) (specs : List IfSpec) (begin : Begin) → Always (kept_names managed) (KeepsNames (kept_names managed)) (opening_asks managed specs begin)
+opening_always : (managed : List Managed) (specs : List IfSpec) (begin : Begin)
+    → Always (kept_names managed) (KeepsNames (kept_names managed)) (opening_asks managed specs begin)
 unfolding opening_asks
 opening_always managed specs begin =
     let names : List (List ℕ) = kept_names managed in
@@ -323,7 +352,8 @@ opening_always managed specs begin =
 
 module _ (names : List (List ℕ)) where
   -- a call, and those after it
-  one_more : (call : Call) (rest : List StoreCall) (saving : Saving) → (Lists names call → May names call saving × AreInTurn names rest (then_saving names call saving))
+  one_more : (call : Call) (rest : List StoreCall) (saving : Saving)
+      → (Lists names call → May names call saving × AreInTurn names rest (then_saving names call saving))
       → AreInTurn names (store_call call ++ rest) saving
   one_more (Store call) rest saving h = h
   one_more (Link call) rest saving h = (h tt).1
@@ -341,7 +371,8 @@ module _ (names : List (List ℕ)) where
       (one_more (made ask front.0) (flat_map store_call calls) saving
       (λ lists. ((turn front.0 lists).0, front_comes P (next front.0) calls (then_saving names (made ask front.0) saving) front.2 (turn front.0 lists).1)))
 
-  one_and : (call : Call) (here rest : List StoreCall) (saving : Saving) → (Lists names call → May names call saving × AreInTurn names (here ++ rest) (then_saving names call saving))
+  one_and : (call : Call) (here rest : List StoreCall) (saving : Saving)
+      → (Lists names call → May names call saving × AreInTurn names (here ++ rest) (then_saving names call saving))
       → AreInTurn names ((store_call call ++ here) ++ rest) saving
   one_and (Store call) here rest saving h = h
   one_and (Link call) here rest saving h = (h tt).1
@@ -351,11 +382,15 @@ module _ (names : List (List ℕ)) where
 
   -- all of it, and what comes then
   whole_comes : {A : Type 0} (P : A → Type 0) (asks : Asks A) (answers : Answers asks) (rest : List StoreCall) (saving : Saving) → InTurn names P asks saving
-      → (P (result_with asks answers) → (then : Saving) → IsFree then → AreInTurn names rest then) → AreInTurn names (flat_map store_call (calls_with asks answers) ++ rest) saving
+      → (P (result_with asks answers) → (then : Saving) → IsFree then → AreInTurn names rest then)
+      → AreInTurn names (flat_map store_call (calls_with asks answers) ++ rest) saving
   whole_comes P (Done x) answers rest saving turn later = later turn.1 saving turn.0
   whole_comes P (Then ask next) answers rest saving turn later =
       one_and (made ask answers.0) (flat_map store_call (calls_with (next answers.0) answers.1)) rest saving
-      (λ lists. ((turn answers.0 lists).0, whole_comes P (next answers.0) answers.1 rest (then_saving names (made ask answers.0) saving) (turn answers.0 lists).1 later))
+      (λ lists. (
+        (turn answers.0 lists).0,
+        whole_comes P (next answers.0) answers.1 rest (then_saving names (made ask answers.0) saving) (turn answers.0 lists).1 later,
+      ))
 
   module _ (managed : List Managed) where
     last_comes : (life : Life) (last : List Call) → KeepsNames names life → FrontOfTurn managed life last → (saving : Saving) → IsFree saving
@@ -364,12 +399,15 @@ module _ (names : List (List ℕ)) where
     last_comes life (call ∷ calls) are front saving free = by front.1
       where
         by : FailsWait life call calls ⊎ BeginsTurn managed life call calls → AreInTurn names (flat_map store_call (call ∷ calls)) saving
-        by (inl fails) = subst (λ (cs : List Call). AreInTurn names (flat_map store_call cs) saving) (sym (ap₂ (λ (c : Call) (cs : List Call). c ∷ cs) fails.0 fails.1)) tt
+        by (inl fails) =
+            subst (λ (cs : List Call). AreInTurn names (flat_map store_call cs) saving) (sym (ap₂ (λ (c : Call) (cs : List Call). c ∷ cs) fails.0 fails.1)) tt
         by (inr begins) =
             subst (λ (c : Call). AreInTurn names (flat_map store_call (c ∷ calls)) saving) (sym begins.waited)
-            (front_comes (KeepsNames names) (turn_asks managed life begins.wake begins.bytes) calls saving begins.front (turn_always names managed life begins.wake begins.bytes are saving free))
+            (front_comes (KeepsNames names) (turn_asks managed life begins.wake begins.bytes) calls saving begins.front
+            (turn_always names managed life begins.wake begins.bytes are saving free))
 
-    turns_come : (life : Life) (mets : List Met) (last : List Call) → AreTurns managed life mets → KeepsNames names life → FrontOfTurn managed (life_after life mets) last
+    turns_come : (life : Life) (mets : List Met) (last : List Call) → AreTurns managed life mets → KeepsNames names life
+        → FrontOfTurn managed (life_after life mets) last
         → (saving : Saving) → IsFree saving → AreInTurn names (flat_map store_call (turns_calls life mets ++ last)) saving
     turns_come life [] last turns are front saving free = last_comes life last are front saving free
     turns_come life (met ∷ mets) last turns are front saving free =
@@ -383,9 +421,11 @@ module _ (names : List (List ℕ)) where
         (whole_comes (KeepsNames names) asks makes.answers (flat_map store_call rest) saving (turn_always names managed life met.wake met.bytes are saving free)
         (λ named then freed. turns_come met.life mets last turns.1 (subst (KeepsNames names) (sym makes.result_is) named) front then freed))
 
-pub life_comes : (managed : List Managed) (specs : List IfSpec) (calls : List Call) → FrontOfLife managed specs calls → AreInTurn (kept_names managed) (flat_map store_call calls) Idle
+pub life_comes : (managed : List Managed) (specs : List IfSpec) (calls : List Call) → FrontOfLife managed specs calls
+    → AreInTurn (kept_names managed) (flat_map store_call calls) Idle
 life_comes managed specs calls (inl opening) =
-    front_comes (kept_names managed) (KeepsNames (kept_names managed)) (opening_asks managed specs opening.begin) calls Idle opening.front (opening_always managed specs opening.begin Idle tt)
+    front_comes (kept_names managed) (KeepsNames (kept_names managed)) (opening_asks managed specs opening.begin) calls Idle opening.front
+    (opening_always managed specs opening.begin Idle tt)
 life_comes managed specs calls (inr life) =
     let names : List (List ℕ) = kept_names managed in
     let asks : Asks Life = opening_asks managed specs life.opening.begin in
@@ -394,7 +434,11 @@ life_comes managed specs calls (inr life) =
     (sym (ap (flat_map store_call) life.calls_are ∙ ap (λ (cs : List Call). flat_map store_call (cs ++ rest)) life.opens.calls_are
     ∙ flat_map-append store_call (calls_with asks life.opens.answers) rest))
     (whole_comes names (KeepsNames names) asks life.opens.answers (flat_map store_call rest) Idle (opening_always managed specs life.opening.begin Idle tt)
-    (λ named then free. turns_come names managed life.opening.life life.mets life.last life.turns (subst (KeepsNames names) (sym life.opens.result_is) named) life.front then free))
+    (λ named
+    then free. turns_come names managed life.opening.life life.mets life.last life.turns
+    (subst (KeepsNames names) (sym life.opens.result_is) named) life.front
+    then free))
 
 pub life_stays_whole : LifeStaysWhole
-life_stays_whole managed specs calls front failing before = stay_whole failing (kept_names managed) (flat_map store_call calls) before (life_comes managed specs calls front)
+life_stays_whole managed specs calls front failing before =
+    stay_whole failing (kept_names managed) (flat_map store_call calls) before (life_comes managed specs calls front)

@@ -54,7 +54,8 @@ module _ (world : World) where
   read_so name None e = e
   read_so name (Some bytes) e = e
 
-  read : (name : List ℕ) (b : Bool) → fails_store world.store ≡ b → Answers (calls.ReadFile name (cond b calls.Unread (reading_of (file_at name told.files)))) told.files
+  read : (name : List ℕ) (b : Bool) → fails_store world.store ≡ b
+      → Answers (calls.ReadFile name (cond b calls.Unread (reading_of (file_at name told.files)))) told.files
   read name true e = record { done = e; truly = inl refl; leaves = refl }
   read name false e = record { done = read_so name (file_at name told.files) e; truly = inr refl; leaves = refl }
 
@@ -73,15 +74,18 @@ module _ (world : World) where
       (record { done = not_not (fails_store world.store); truly = tt; leaves = refl })
   ask_goes (SyncAside name) =
       let done : Bool = not (fails_store world.store) in
-      one_goes (calls.SyncedAside name done) (cond done told.files told.files) (record { done = not_not (fails_store world.store); truly = tt; leaves = same_both done told.files })
+      one_goes (calls.SyncedAside name done) (cond done told.files told.files)
+      (record { done = not_not (fails_store world.store); truly = tt; leaves = same_both done told.files })
   ask_goes (RenameAside name) =
       let done : Bool = not (fails_renaming name world.store) in
       one_goes (calls.RenamedAside name done) (cond done (rename_file name (file_at (aside_of name) told.files) told.files) told.files)
       (record { done = not_not (fails_renaming name world.store); truly = tt; leaves = refl })
   ask_goes (RemoveFile name) =
       let done : Bool = not (fails_store world.store) in
-      one_goes (calls.RemovedFile name done) (cond done (drop_file name told.files) told.files) (record { done = not_not (fails_store world.store); truly = tt; leaves = refl })
-  ask_goes Settle = one_goes (calls.SettledFiles (not (fails_store world.store))) told.files (record { done = not_not (fails_store world.store); truly = tt; leaves = refl })
+      one_goes (calls.RemovedFile name done) (cond done (drop_file name told.files) told.files)
+      (record { done = not_not (fails_store world.store); truly = tt; leaves = refl })
+  ask_goes Settle =
+      one_goes (calls.SettledFiles (not (fails_store world.store))) told.files (record { done = not_not (fails_store world.store); truly = tt; leaves = refl })
   ask_goes (Start job) = refl
   ask_goes (Poll number) = refl
   ask_goes (Abandon number) = refl
@@ -89,7 +93,8 @@ module _ (world : World) where
 
 -- ---- a program of them
 
-pub run_goes : {A : Type 0} (asks : Asks A) (world : World) → Goes (Some world.store.failing) (flat_map store_call (run asks world).calls) world.store.told (run asks world).world.store.told
+pub run_goes : {A : Type 0} (asks : Asks A) (world : World)
+    → Goes (Some world.store.failing) (flat_map store_call (run asks world).calls) world.store.told (run asks world).world.store.told
 run_goes (Done x) world = refl
 run_goes {A} (Then ask next) world =
     let answer : AnswerTo ask = answer_to ask world in
@@ -141,7 +146,8 @@ module _ (managed : List Managed) where
       )
 
   turns_go : (coming : List Given) (life : Life) (world : World)
-      → Goes (Some world.store.failing) (flat_map store_call (turns_calls life (told_turns managed life world coming))) world.store.told (told_after managed life world coming).store.told
+      → Goes (Some world.store.failing) (flat_map store_call (turns_calls life (told_turns managed life world coming))) world.store.told
+      (told_after managed life world coming).store.told
   turns_go [] life world = refl
   turns_go (given ∷ coming) life world = by (is_over life || is_end given.wake.event) (turns_go coming ran.result ran.world)
     where
@@ -161,20 +167,25 @@ module _ (managed : List Managed) where
       left = told_after managed ran.result ran.world coming
 
       by : (b : Bool) → Goes (Some ran.world.store.failing) (flat_map store_call (turns_calls ran.result later)) ran.world.store.told left.store.told
-          → Goes (Some world.store.failing) (flat_map store_call (turns_calls life (cond b [] (met_of given ran ∷ later)))) world.store.told (cond b world left).store.told
+          → Goes (Some world.store.failing) (flat_map store_call (turns_calls life (cond b [] (met_of given ran ∷ later)))) world.store.told
+          (cond b world left).store.told
       by true rest = refl
       by false rest =
           subst (λ (cs : List StoreCall). Goes (Some world.store.failing) cs world.store.told left.store.told)
           (sym (flat_map-append store_call ran.calls (turns_calls ran.result later)))
-          (goes_more (Some world.store.failing) (flat_map store_call ran.calls) (flat_map store_call (turns_calls ran.result later)) world.store.told ran.world.store.told left.store.told
+          (goes_more (Some world.store.failing) (flat_map store_call ran.calls)
+          (flat_map store_call (turns_calls ran.result later)) world.store.told ran.world.store.told left.store.told
           (run_goes asks woke)
-          (subst (λ (f : StoreFails). Goes (Some f) (flat_map store_call (turns_calls ran.result later)) ran.world.store.told left.store.told) (run_store_failing asks woke) rest))
+          (subst (λ (f : StoreFails). Goes (Some f) (flat_map store_call (turns_calls ran.result later)) ran.world.store.told left.store.told)
+          (run_store_failing asks woke) rest))
 
 pub foretold_whole : ForetoldLivesWhole
 foretold_whole managed specs world sound = record {
   goes = goes;
   whole = life_stays_whole managed specs (foretold_calls (foretold_life managed specs world)) (inr front) (Some world.store.failing) world.store.told;
-  sound = goes_sound (Some world.store.failing) (flat_map store_call (foretold_calls (foretold_life managed specs world))) world.store.told left.store.told goes sound;
+  sound =
+      goes_sound (Some world.store.failing)
+      (flat_map store_call (foretold_calls (foretold_life managed specs world))) world.store.told left.store.told goes sound;
 }
   where
     asks : Asks Life
@@ -193,9 +204,11 @@ foretold_whole managed specs world sound = record {
     goes =
         subst (λ (cs : List StoreCall). Goes (Some world.store.failing) cs world.store.told left.store.told)
         (sym (flat_map-append store_call opened.calls (turns_calls opened.result mets)))
-        (goes_more (Some world.store.failing) (flat_map store_call opened.calls) (flat_map store_call (turns_calls opened.result mets)) world.store.told opened.world.store.told left.store.told
+        (goes_more (Some world.store.failing) (flat_map store_call opened.calls)
+        (flat_map store_call (turns_calls opened.result mets)) world.store.told opened.world.store.told left.store.told
         (run_goes asks world)
-        (subst (λ (f : StoreFails). Goes (Some f) (flat_map store_call (turns_calls opened.result mets)) opened.world.store.told left.store.told) (run_store_failing asks world)
+        (subst (λ (f : StoreFails). Goes (Some f) (flat_map store_call (turns_calls opened.result mets)) opened.world.store.told left.store.told)
+        (run_store_failing asks world)
         (turns_go managed opened.world.link.told.coming opened.result opened.world)))
 
     front : AfterOpening managed specs (foretold_calls (foretold_life managed specs world))

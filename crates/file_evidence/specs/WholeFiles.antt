@@ -1,4 +1,5 @@
--- What a crash may leave of the files at each moment of a life, wherever it is cut off and whatever its calls are answered.
+-- What a crash may leave of the files at each moment of a life, wherever it is cut off and whatever its calls are
+-- answered.
 use Rattle.std.specs.Prelude.{ℕ, List, [], ◌++◌, map, flat_map, Option, Some}
 use Rattle.net_types.specs.declared.interface.IfSpec.{IfSpec}
 use Rattle.world.specs.StoreFails.{StoreFails}
@@ -31,12 +32,18 @@ LifeStaysWhole = (managed : List Managed) (specs : List IfSpec) (calls : List Ca
 abbrev pub foretold_calls : ForetoldLife → List Call
 foretold_calls life = life.opening.calls ++ turns_calls life.opening.life life.mets
 
--- The store tells the calls of that life, one after another; at each moment of them each file is whole, and the store is left sound.
+-- The store tells the calls of that life, one after another; at each moment of them each file is whole, and the store
+-- is left sound.
 pub record LivesWhole (managed : List Managed) (specs : List IfSpec) (world : World) : Type 0 where
-  pub goes : Goes (Some world.store.failing) (flat_map store_call (foretold_calls (foretold_life managed specs world))) world.store.told (foretold_life managed specs world).left.store.told
-  pub whole : FilesStayWhole (Some world.store.failing) managed (foretold_calls (foretold_life managed specs world)) world.store.told
+  pub goes : Goes (Some world.store.failing)
+      (flat_map store_call (foretold_calls (foretold_life managed specs world))) world.store.told
+      (foretold_life managed specs world).left.store.told
+  pub whole : FilesStayWhole (Some world.store.failing) managed
+      (foretold_calls (foretold_life managed specs world)) world.store.told
   pub sound : IsSound (foretold_life managed specs world).left.store.told
 
 -- so each over a sound store
 abbrev pub ForetoldLivesWhole : Type 0
-ForetoldLivesWhole = (managed : List Managed) (specs : List IfSpec) (world : World) → IsSound world.store.told → LivesWhole managed specs world
+ForetoldLivesWhole =
+    (managed : List Managed) (specs : List IfSpec) (world : World) → IsSound world.store.told
+    → LivesWhole managed specs world

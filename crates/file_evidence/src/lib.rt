@@ -1,4 +1,5 @@
-//! Why the files that a life keeps can be relied on: the law that each is whole at every moment of a life, wherever it is cut off.
+//! Why the files that a life keeps can be relied on: the law that each is whole at every moment of a life, wherever it
+//! is cut off.
 #![tactic(auto)]
 
 mod laws;

@@ -68,7 +68,8 @@ frame_spelled b h =
 nine : (a b c d e f g h i : List ℕ) → a ++ b ++ c ++ d ++ e ++ f ++ g ++ h ++ i ≡ a ++ (b ++ (c ++ (d ++ (e ++ (f ++ (g ++ (h ++ i)))))))
 nine a b c d e f g h i = simp append_assoc
 
-eight_cuts : (b : List ℕ) → cut 2 b 0 ++ (cut 2 b 2 ++ (cut 2 b 4 ++ (cut 2 b 6 ++ (cut 6 b 8 ++ (cut 4 b 14 ++ (cut 6 b 18 ++ (cut 4 b 24 ++ drop 28 b))))))) ≡ b
+eight_cuts : (b : List ℕ)
+    → cut 2 b 0 ++ (cut 2 b 2 ++ (cut 2 b 4 ++ (cut 2 b 6 ++ (cut 6 b 8 ++ (cut 4 b 14 ++ (cut 6 b 18 ++ (cut 4 b 24 ++ drop 28 b))))))) ≡ b
 eight_cuts b = rw (next 4 b 24, next 6 b 18, next 4 b 14, next 6 b 8, next 2 b 6, next 2 b 4, next 2 b 2) (next 2 b 0)
 
 abbrev heard_arp : List ℕ → ArpView
@@ -88,11 +89,34 @@ whole_packet b h test =
     let op = word_again b 6 h (omega arith) in
     let sender = ip4_again b 14 h (omega arith) in
     let target = ip4_again b 24 h (omega arith) in
-    nine (word_text 1) (word_text 0x0800) (6 ∷ 4 ∷ []) (word_text (word_in b 6)) (cut 6 b 8) (ip4_text (ip4_in b 14)) (cut 6 b 18) (ip4_text (ip4_in b 24)) (drop 28 b)
-    ∙ ap (λ t. t ++ (word_text 0x0800 ++ ((6 ∷ 4 ∷ []) ++ (word_text (word_in b 6) ++ (cut 6 b 8 ++ (ip4_text (ip4_in b 14) ++ (cut 6 b 18 ++ (ip4_text (ip4_in b 24) ++ drop 28 b)))))))) hardware
-    ∙ ap (λ t. cut 2 b 0 ++ (t ++ ((6 ∷ 4 ∷ []) ++ (word_text (word_in b 6) ++ (cut 6 b 8 ++ (ip4_text (ip4_in b 14) ++ (cut 6 b 18 ++ (ip4_text (ip4_in b 24) ++ drop 28 b)))))))) protocol
-    ∙ ap (λ t. cut 2 b 0 ++ (cut 2 b 2 ++ (t ++ (word_text (word_in b 6) ++ (cut 6 b 8 ++ (ip4_text (ip4_in b 14) ++ (cut 6 b 18 ++ (ip4_text (ip4_in b 24) ++ drop 28 b)))))))) lengths
-    ∙ ap (λ t. cut 2 b 0 ++ (cut 2 b 2 ++ (cut 2 b 4 ++ (t ++ (cut 6 b 8 ++ (ip4_text (ip4_in b 14) ++ (cut 6 b 18 ++ (ip4_text (ip4_in b 24) ++ drop 28 b)))))))) op
+    nine (word_text 1) (word_text 0x0800) (6 ∷ 4 ∷ []) (word_text (word_in b 6)) (cut 6 b 8) (ip4_text (ip4_in b 14)) (cut 6 b 18) (ip4_text (ip4_in b 24))
+    (drop 28 b)
+    ∙ ap
+    (λ t. t
+    ++
+    (word_text 0x0800
+    ++
+    ((6 ∷ 4 ∷ [])
+    ++ (word_text (word_in b 6) ++ (cut 6 b 8 ++ (ip4_text (ip4_in b 14) ++ (cut 6 b 18 ++ (ip4_text (ip4_in b 24) ++ drop 28 b))))))))
+    hardware
+    ∙ ap
+    (λ t. cut 2 b 0
+    ++
+    (t
+    ++
+    ((6 ∷ 4 ∷ [])
+    ++ (word_text (word_in b 6) ++ (cut 6 b 8 ++ (ip4_text (ip4_in b 14) ++ (cut 6 b 18 ++ (ip4_text (ip4_in b 24) ++ drop 28 b))))))))
+    protocol
+    ∙ ap
+    (λ t. cut 2 b 0
+    ++
+    (cut 2 b 2
+    ++ (t ++ (word_text (word_in b 6) ++ (cut 6 b 8 ++ (ip4_text (ip4_in b 14) ++ (cut 6 b 18 ++ (ip4_text (ip4_in b 24) ++ drop 28 b))))))))
+    lengths
+    ∙ ap
+    (λ t. cut 2 b 0
+    ++ (cut 2 b 2 ++ (cut 2 b 4 ++ (t ++ (cut 6 b 8 ++ (ip4_text (ip4_in b 14) ++ (cut 6 b 18 ++ (ip4_text (ip4_in b 24) ++ drop 28 b))))))))
+    op
     ∙ ap (λ t. cut 2 b 0 ++ (cut 2 b 2 ++ (cut 2 b 4 ++ (cut 2 b 6 ++ (cut 6 b 8 ++ (t ++ (cut 6 b 18 ++ (ip4_text (ip4_in b 24) ++ drop 28 b)))))))) sender
     ∙ ap (λ t. cut 2 b 0 ++ (cut 2 b 2 ++ (cut 2 b 4 ++ (cut 2 b 6 ++ (cut 6 b 8 ++ (cut 4 b 14 ++ (cut 6 b 18 ++ (t ++ drop 28 b)))))))) target
     ∙ eight_cuts b

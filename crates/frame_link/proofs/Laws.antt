@@ -22,7 +22,8 @@ frame_cells to from kind body small =
 pub frame_heard : (said : Frame) → length said.to.bytes ≡ 6 → length said.from.bytes ≡ 6 → said.kind < 2 ^ 16
     → frame_in (frame_text said) ≡ Some said
 frame_heard said to_len from_len small =
-    let P : List ℕ → List ℕ → Type 0 = λ to from. frame_in (frame_text (record { to = record { bytes = to }; from = record { bytes = from }; kind = said.kind; body = said.body }))
+    let P : List ℕ → List ℕ → Type 0 =
+    λ to from. frame_in (frame_text (record { to = record { bytes = to }; from = record { bytes = from }; kind = said.kind; body = said.body }))
     ≡ Some (record { to = record { bytes = to }; from = record { bytes = from }; kind = said.kind; body = said.body }) in
     subst (λ (to : List ℕ). P to said.from.bytes) (sym (six_cells said.to.bytes to_len))
     (subst (λ (from : List ℕ). P (six said.to.bytes) from) (sym (six_cells said.from.bytes from_len))
@@ -35,10 +36,74 @@ packet_cells : (op : ℕ) (mac target_mac : List ℕ) (sender target : ℕ) (res
     → arp_in (arp_text (packet op (six mac) sender target) (record { bytes = six target_mac }) ++ rest) ≡ Some (packet op (six mac) sender target)
 unfolding arp_in
 packet_cells op mac target_mac sender target rest (inl e) sender_fits target_fits =
-    let long : nat_le 28 (suc (suc (suc (suc (suc (suc (suc (suc (suc (suc (suc (suc (suc (suc (suc (suc (suc (suc (suc (suc (suc (suc (suc (suc (suc (suc (suc (suc (length rest))))))))))))))))))))))))))))) ≡ true = le-leb _ _ (omega arith) in
+    let long : nat_le 28
+    (suc
+    (suc
+    (suc
+    (suc
+    (suc
+    (suc
+    (suc
+    (suc
+    (suc
+    (suc
+    (suc
+    (suc
+    (suc
+    (suc
+    (suc
+    (suc
+    (suc
+    (suc
+    (suc
+    (suc
+    (suc
+    (suc
+    (suc
+    (suc
+    (suc
+    (suc
+    (suc
+    (suc
+    (length
+    rest)))))))))))))))))))))))))))))
+    ≡ true =
+    le-leb _ _ (omega arith) in
     rw (e, long, from_be_bytes-to_be_bytes_4 sender sender_fits, from_be_bytes-to_be_bytes_4 target target_fits) refl
 packet_cells op mac target_mac sender target rest (inr e) sender_fits target_fits =
-    let long : nat_le 28 (suc (suc (suc (suc (suc (suc (suc (suc (suc (suc (suc (suc (suc (suc (suc (suc (suc (suc (suc (suc (suc (suc (suc (suc (suc (suc (suc (suc (length rest))))))))))))))))))))))))))))) ≡ true = le-leb _ _ (omega arith) in
+    let long : nat_le 28
+    (suc
+    (suc
+    (suc
+    (suc
+    (suc
+    (suc
+    (suc
+    (suc
+    (suc
+    (suc
+    (suc
+    (suc
+    (suc
+    (suc
+    (suc
+    (suc
+    (suc
+    (suc
+    (suc
+    (suc
+    (suc
+    (suc
+    (suc
+    (suc
+    (suc
+    (suc
+    (suc
+    (suc
+    (length
+    rest)))))))))))))))))))))))))))))
+    ≡ true =
+    le-leb _ _ (omega arith) in
     rw (e, long, from_be_bytes-to_be_bytes_4 sender sender_fits, from_be_bytes-to_be_bytes_4 target target_fits) refl
 
 pub one_or_two : (n : ℕ) → 1 ≤ n → n ≤ 2 → (n ≡ 1) ⊎ (n ≡ 2)
@@ -48,10 +113,12 @@ one_or_two (suc (suc zero)) least most = inr refl
 one_or_two (suc (suc (suc n))) least most = absurd (omega arith)
 
 -- a packet with whatever follows it
-pub packet_heard : (said : ArpView) (target_mac : Mac) (rest : List ℕ) → (said.op ≡ 1) ⊎ (said.op ≡ 2) → length said.sender_mac.bytes ≡ 6 → length target_mac.bytes ≡ 6
+pub packet_heard : (said : ArpView) (target_mac : Mac) (rest : List ℕ) → (said.op ≡ 1) ⊎ (said.op ≡ 2) → length said.sender_mac.bytes ≡ 6
+    → length target_mac.bytes ≡ 6
     → said.sender.number < 2 ^ 32 → said.target.number < 2 ^ 32 → arp_in (arp_text said target_mac ++ rest) ≡ Some said
 packet_heard said target_mac rest op sender_len target_len sender_fits target_fits =
-    let P : List ℕ → List ℕ → Type 0 = λ mac other. arp_in (arp_text (packet said.op mac said.sender.number said.target.number) (record { bytes = other }) ++ rest)
+    let P : List ℕ → List ℕ → Type 0 =
+    λ mac other. arp_in (arp_text (packet said.op mac said.sender.number said.target.number) (record { bytes = other }) ++ rest)
     ≡ Some (packet said.op mac said.sender.number said.target.number) in
     subst (λ (mac : List ℕ). P mac target_mac.bytes) (sym (six_cells said.sender_mac.bytes sender_len))
     (subst (λ (other : List ℕ). P (six said.sender_mac.bytes) other) (sym (six_cells target_mac.bytes target_len))

@@ -19,7 +19,8 @@ is_arp body =
 unfoldable pub arp_in : List ℕ → Option ArpView
 arp_in body =
     if is_arp body
-    then Some (record { op = word_in body 6; sender_mac = mac_in body 8; sender = ip4_in body 14; target = ip4_in body 24 })
+    then Some
+    (record { op = word_in body 6; sender_mac = mac_in body 8; sender = ip4_in body 14; target = ip4_in body 24 })
     else None
 
 -- the packet with a target's hardware address

@@ -192,7 +192,8 @@ fn an_offer_cut_short(rt: HostRuntime) {
     }
 }
 
-// So many bytes of an OFFER, and why they are no reply: without its options, within the first of them, and within the second.
+// So many bytes of an OFFER, and why they are no reply: without its options, within the first of them, and within the
+// second.
 const CUT: [(usize, Bad4); 3] = [
     (240, Bad4::NoType),
     (242, Bad4::Malformed { place: 240 }),
@@ -220,7 +221,8 @@ fn the_first_fault_is_told(rt: HostRuntime) {
     assert_eq!(rt; read4(&message).err(), Some(Bad4::NoType));
 }
 
-// An ACK of 300 bytes whose servers of names stand in its options and in sname, with this length of those in the options.
+// An ACK of 300 bytes whose servers of names stand in its options and in sname, with this length of those in the
+// options.
 fn split_ack(len: u8) -> [u8; 300] {
     let mut message = [0; 300];
     message[..8].copy_from_slice(&[2, 1, 6, 0, 0, 0, 0, 1]); // op, htype, hlen, hops, xid

@@ -12,9 +12,9 @@ const CLIENT: [u8; 10] = *b"\x00\x03\x00\x01\x02\x00\x00\x00\x00\x01";
 // The DUID of a server.
 const SERVER: [u8; 10] = *b"\x00\x03\x00\x01\x02\x00\x00\x00\x00\x63";
 
-// A Reply as a server sends it (RFC 8415, sections 8 and 21): type and xid; the client's DUID; the server's; an IA_NA with
-// its IAID, T1 and T2, and an address with its lifetimes; an IA_PD with a prefix, whose lifetimes and length come first; a
-// server of names; and a search list.
+// A Reply as a server sends it (RFC 8415, sections 8 and 21): type and xid; the client's DUID; the server's; an IA_NA
+// with its IAID, T1 and T2, and an address with its lifetimes; an IA_PD with a prefix, whose lifetimes and length come
+// first; a server of names; and a search list.
 const REPLY: [u8; 148] = *b"\x07\x00\x00\x02\
     \x00\x01\x00\x0a\x00\x03\x00\x01\x02\x00\x00\x00\x00\x01\
     \x00\x02\x00\x0a\x00\x03\x00\x01\x02\x00\x00\x00\x00\x63\

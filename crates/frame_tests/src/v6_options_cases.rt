@@ -58,8 +58,8 @@ fn duids(rt: HostRuntime) -> Result<(), Fail> {
 // How deep IAs can stand within each other: the outermost then has a value of 65,532 bytes.
 const DEPTH: usize = 4096;
 
-// IAs within each other, each with its IAID, T1 and T2 alone before the next one. The innermost says that it has a value of
-// so many bytes, and has 12.
+// IAs within each other, each with its IAID, T1 and T2 alone before the next one. The innermost says that it has a
+// value of so many bytes, and has 12.
 fn nested(rt: &HostRuntime, innermost: u16) -> Result<Vec<u8>, Fail> {
     let mut area = Vec::new(rt.alloc());
     for inner in (1..DEPTH).rev() {

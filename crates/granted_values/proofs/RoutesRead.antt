@@ -55,6 +55,7 @@ all_back (route ∷ routes) fit =
 has_more : (n : ℕ) → ltb 0 (suc n) ≡ true
 has_more n = grind arith
 
-pub routes_back : (routes : List SentRoute) → AllByRecursion FitsRoute routes → option_and_then routes_in (routes_value routes) ≡ if_any (map route_given routes)
+pub routes_back : (routes : List SentRoute) → AllByRecursion FitsRoute routes
+    → option_and_then routes_in (routes_value routes) ≡ if_any (map route_given routes)
 routes_back [] fit = refl
 routes_back (first ∷ others) fit = rw has_more (all_back (first ∷ others) fit)

@@ -22,7 +22,12 @@ if_any (first ∷ others) = Some (first ∷ others)
 -- the bytes of a destination that aren't sent are 0, and no bit past its width counts
 abbrev pub route_given : SentRoute → ClasslessRoute
 route_given route = record {
-  dest = network_of (record { ip = record { number = from_be_bytes w32 (route.sent ++ replicate (4 - length route.sent) 0) }; len = route.width });
+  dest =
+      network_of
+      (record {
+        ip = record { number = from_be_bytes w32 (route.sent ++ replicate (4 - length route.sent) 0) };
+        len = route.width;
+      });
   via = route.via;
 }
 

@@ -1,5 +1,5 @@
--- The options of an ACK, byte for byte (RFC 2132, sections 3.3, 3.5, 3.8, 5.1, 5.3, 8.3, 9.11 and 9.12; RFC 3397; RFC 3442).
--- The widths are in bytes:
+-- The options of an ACK, byte for byte (RFC 2132, sections 3.3, 3.5, 3.8, 5.1, 5.3, 8.3, 9.11 and 9.12; RFC 3397; RFC
+-- 3442). The widths are in bytes:
 --
 --   mask, broadcast     | address 4 |
 --   routers, DNS, NTP   | address 4 | address 4 | .. |

@@ -9,11 +9,13 @@ ghost use Rattle.granted_values.specs.AckValues.{AckValues};
 ghost use Rattle.granted_values.specs.ValueTexts.{ack_options};
 ghost use Rattle.granted_values.specs.ReadBack.{AreRead, FitsAck};
 
-/// The options of an ACK are found in its area, each value is read as what was granted, and the client takes its mask, T1
-/// and T2 from the options that say them.
+/// The options of an ACK are found in its area, each value is read as what was granted, and the client takes its mask,
+/// T1 and T2 from the options that say them.
 pub fn granted_values_are_read_back()
-    ensures options { (values : AckValues) → FitsAck values → instances_in (options_text (ack_options values) ++ END ∷ []) ≡ ack_options values }
+    ensures options { (values : AckValues) → FitsAck values
+        → instances_in (options_text (ack_options values) ++ END ∷ []) ≡ ack_options values }
     ensures values { (values : AckValues) → FitsAck values → AreRead (ack_options values) values }
     ensures mask { (values : AckValues) → FitsAck values → mask_taken [] (ack_options values) ≡ values.mask }
-    ensures times { (values : AckValues) → FitsAck values → (lease : ℕ) → times_taken [] (ack_options values) lease ≡ times_of lease values.t1 values.t2 }
+    ensures times { (values : AckValues) → FitsAck values → (lease : ℕ)
+        → times_taken [] (ack_options values) lease ≡ times_of lease values.t1 values.t2 }
 {}

@@ -1,4 +1,5 @@
-//! The options by which a DHCPv4 server grants terms, spelled by their RFCs, and the law that a client reads what they say.
+//! The options by which a DHCPv4 server grants terms, spelled by their RFCs, and the law that a client reads what they
+//! say.
 #![tactic(auto)]
 
 mod laws;

@@ -67,7 +67,8 @@ poll_goes : (answer : Poll) (at : ℕ) (child : Child) → GoesOrStays (poll_eve
 poll_goes (Ended status) at child = inl refl
 poll_goes Running at child = running_goes (is_over_time at (Some child)) child
 
-next_goes : (at : ℕ) (waiting : List Job) (child : Child) → GoesOrStays (order_event (first_order (Some child) waiting)) (child_from at (Some child) waiting) child
+next_goes : (at : ℕ) (waiting : List Job) (child : Child)
+    → GoesOrStays (order_event (first_order (Some child) waiting)) (child_from at (Some child) waiting) child
 next_goes at waiting child = inr (record { quiet = refl; kept = refl })
 
 call_goes : (call : Call) (s : Supervision) (child : Child) → s.child ≡ Some child → GoesOrStays (event call s) (after_call call s).child child

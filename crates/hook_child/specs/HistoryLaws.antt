@@ -15,14 +15,17 @@ events_of calls = history calls idle
 abbrev pub left_by : List Call → Supervision
 left_by calls = after_calls calls idle
 
--- the jobs that were started, and then those that wait, are the jobs that were taken, in the order in which they were put
+-- the jobs that were started, and then those that wait, are the jobs that were taken, in the order in which they were
+-- put
 abbrev pub FirstInFirstOut : Type 0
-FirstInFirstOut = (calls : List Call) → started_in (events_of calls) ++ (left_by calls).waiting ≡ taken_in (events_of calls)
+FirstInFirstOut =
+    (calls : List Call) → started_in (events_of calls) ++ (left_by calls).waiting ≡ taken_in (events_of calls)
 
 -- a job is dropped exactly where as many wait as may: that many were taken and not started
 abbrev pub DropWhereFull : Type 0
 DropWhereFull = (calls : List Call)
-    → IsErr (put_answer (left_by calls)) ↔ (length (taken_in (events_of calls)) ≡ length (started_in (events_of calls)) + most_waiting)
+    → IsErr (put_answer (left_by calls)) ↔
+    (length (taken_in (events_of calls)) ≡ length (started_in (events_of calls)) + most_waiting)
 
 -- no more jobs wait than may
 abbrev pub FewWait : Type 0
@@ -62,4 +65,5 @@ RunOn = (s : Supervision) (job : Job) (since : ℕ) (calls : List Call)
 abbrev pub AbandonOnTime : Type 0
 AbandonOnTime = (s : Supervision) (job : Job) (since at : ℕ) (calls : List Call)
     → next_order s ≡ Start job → list_any is_gone (history calls (after_next since s)) ≡ false
-    → (poll_order Running at (after_calls calls (after_next since s)).child ≡ Abandon) ↔ (child_time ≤ moment_of at - moment_of since)
+    → (poll_order Running at (after_calls calls (after_next since s)).child ≡ Abandon) ↔
+    (child_time ≤ moment_of at - moment_of since)

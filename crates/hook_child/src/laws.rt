@@ -8,15 +8,15 @@ pub fn jobs_start_in_order()
     ensures room { FewWait }
 {}
 
-/// Jobs are numbered 1, 2, 3 and so on as they are put, dropped ones included, and none starts twice: for up to 2^64 - 1
-/// calls.
+/// Jobs are numbered 1, 2, 3 and so on as they are put, dropped ones included, and none starts twice: for up to 2^64 -
+/// 1 calls.
 pub fn jobs_are_numbered()
     ensures numbers { CountPuts }
     ensures once { StartOnce }
 {}
 
-/// One child runs at a time: between two starts a child ended, was abandoned or couldn't be started. Until then it is the
-/// child of the job that was started last, and a poll abandons it exactly from 60,000 ms after that start on.
+/// One child runs at a time: between two starts a child ended, was abandoned or couldn't be started. Until then it is
+/// the child of the job that was started last, and a poll abandons it exactly from 60,000 ms after that start on.
 pub fn one_child_runs()
     ensures one { OneChild }
     ensures runs { RunOn }

@@ -1,7 +1,7 @@
 //! The supervisor of hook children: jobs wait in line, and one child runs at a time.
 //!
-//! New jobs are `put`. Where a child runs it is polled, and what the poll said is told by `polled`; then `next_job` gives
-//! the job that is to be started, if there is one. A start that failed is told by `not_started`.
+//! New jobs are `put`. Where a child runs it is polled, and what the poll said is told by `polled`; then `next_job`
+//! gives the job that is to be started, if there is one. A start that failed is told by `not_started`.
 #![tactic(auto)]
 
 mod answers;

@@ -52,8 +52,8 @@ pub fn supervisor_new(alloc: Global) -> Result<Supervisor, NoMemory>
     })
 }
 
-/// Puts a job in line, and gives it its number. Numbers count from 1, the jobs that were dropped included. A job is dropped
-/// where 1,024 wait.
+/// Puts a job in line, and gives it its number. Numbers count from 1, the jobs that were dropped included. A job is
+/// dropped where 1,024 wait.
 pub fn put(s: &mut Supervisor, mut job: HookJob) -> Result<u64, Dropped>
     ensures answer { result ≡ put_answer s.old }
     ensures line { s.new ≡ after_put (job_of job) s.old }
@@ -70,8 +70,8 @@ pub fn put(s: &mut Supervisor, mut job: HookJob) -> Result<u64, Dropped>
     Ok(number)
 }
 
-/// Takes what a poll of the running child said; a poll that failed counts as `Running`. A child that still runs 60,000 ms
-/// or more after its start is to be abandoned. After `Abandon`, and where the child has ended, none runs.
+/// Takes what a poll of the running child said; a poll that failed counts as `Running`. A child that still runs 60,000
+/// ms or more after its start is to be abandoned. After `Abandon`, and where the child has ended, none runs.
 pub fn polled(s: &mut Supervisor, answer: Poll, at: u64) -> Turned
     requires { IsSome s.old.child }
     ensures order { order_of result ≡ poll_order answer at s.old.child }

@@ -13,6 +13,7 @@ bytes_first : (b : Bool) (value : Value) (others : List Value) (code : ℕ)
 bytes_first true value others code more = refl
 bytes_first false value others code more = more
 
-pub bytes_found : (code : ℕ) (values : List Value) → value_in code (values_content values) ≡ option_map (λ found. found.bytes.items) (find (λ kept. kept.code == code) values)
+pub bytes_found : (code : ℕ) (values : List Value)
+    → value_in code (values_content values) ≡ option_map (λ found. found.bytes.items) (find (λ kept. kept.code == code) values)
 bytes_found code [] = refl
 bytes_found code (value ∷ others) = bytes_first (value.code == code) value others code (bytes_found code others)

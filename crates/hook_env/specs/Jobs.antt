@@ -52,7 +52,9 @@ variables_if false stage held = []
 abbrev pub made_variables : SituationContent → List Variable
 made_variables situation =
     job_variables situation
-    ++ (variables_if (tells_before situation.reason) Before situation.held_before ++ variables_if (tells_now situation.reason) Now situation.held_now)
+    ++
+    (variables_if (tells_before situation.reason) Before situation.held_before
+    ++ variables_if (tells_now situation.reason) Now situation.held_now)
 
 -- a job has no number yet; what is configured stands behind what is made
 abbrev pub job_of_situation : SituationContent → Job

@@ -46,7 +46,8 @@ net_variables stage net = map (net_told stage net) NET_VARIABLES
 
 -- the value of the option, read in the form of its code
 abbrev pub option_value : List ValueContent → OptionVariable → Option (List ℕ)
-option_value values variable = option_and_then (value_text (form_of (option_code variable))) (value_in (option_code variable) values)
+option_value values variable =
+    option_and_then (value_text (form_of (option_code variable))) (value_in (option_code variable) values)
 
 abbrev pub option_told : Stage → List ValueContent → OptionVariable → List Variable
 option_told stage values variable = told_if stage (option_word variable) (option_value values variable)
@@ -56,7 +57,9 @@ option_variables stage values = flat_map (option_told stage values) OPTION_VARIA
 
 -- how long it lasts, and who granted it; the time of a lease without end is 4294967295 (RFC 2131, section 3.3)
 abbrev pub term_variables : Stage → LeaseContent → List Variable
-term_variables stage lease = told stage lease_time_word (decimal lease.lease) ∷ told stage server_word (ip4_text lease.server) ∷ []
+term_variables stage lease =
+    told stage lease_time_word (decimal lease.lease) ∷ told stage server_word (ip4_text lease.server) ∷ []
 
 abbrev pub lease_variables : Stage → LeaseContent → List Variable
-lease_variables stage lease = net_variables stage lease.net ++ (option_variables stage lease.values ++ term_variables stage lease)
+lease_variables stage lease =
+    net_variables stage lease.net ++ (option_variables stage lease.values ++ term_variables stage lease)

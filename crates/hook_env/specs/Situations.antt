@@ -11,8 +11,8 @@ use Rattle.hook_env.specs.declared.situation.Held.{Held}
 use Rattle.hook_env.specs.declared.situation.Held.TheVariants as held
 use Rattle.hook_env.specs.declared.situation.Situation.{Situation}
 
--- what an interface holds of one kind: nothing, a DHCPv4 lease, an IPv4 address with its network (link-local or static), a
--- DHCPv6 lease, an address out of a delegated prefix with its length
+-- what an interface holds of one kind: nothing, a DHCPv4 lease, an IPv4 address with its network (link-local or
+-- static), a DHCPv6 lease, an address out of a delegated prefix with its length
 pub data HeldContent : Type 0 where
   Nothing : HeldContent
   Leased4 : (lease : LeaseContent) → HeldContent

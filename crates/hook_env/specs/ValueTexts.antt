@@ -1,4 +1,5 @@
--- The texts of the values that came with a lease: each read in the form of its code (RFC 2132, RFC 3397, RFC 3442, RFC 3646).
+-- The texts of the values that came with a lease: each read in the form of its code (RFC 2132, RFC 3397, RFC 3442, RFC
+-- 3646).
 use Rattle.std.specs.Prelude.{ℕ, List, map, Option, None, decimal, ◌==◌, find}
 use Rattle.std.specs.Option.{option_map}
 use Rattle.net_types.specs.AddressText.{ip4_text, ip6_text}

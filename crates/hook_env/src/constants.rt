@@ -10,8 +10,11 @@ use crate::variables::{
 
 /// Law: which variables a job has, and in which order.
 pub fn variables_are_these()
-    ensures job { JOB_VARIABLES ≡ JobVariable.Interface ∷ JobVariable.Reason ∷ JobVariable.Carrier ∷ JobVariable.Metric ∷ [] }
+    ensures job { JOB_VARIABLES
+        ≡ JobVariable.Interface ∷ JobVariable.Reason ∷ JobVariable.Carrier ∷ JobVariable.Metric ∷ [] }
     ensures net { NET_VARIABLES ≡ NetVariable.Address ∷ NetVariable.Length ∷ NetVariable.Mask ∷ [] }
     ensures option { OPTION_VARIABLES ≡ option_order }
-    ensures lease6 { LEASE6_VARIABLES ≡ Lease6Variable.Addresses ∷ Lease6Variable.Prefixes ∷ Lease6Variable.NameServers ∷ Lease6Variable.DomainSearch ∷ [] }
+    ensures lease6 { LEASE6_VARIABLES
+        ≡ Lease6Variable.Addresses ∷ Lease6Variable.Prefixes ∷ Lease6Variable.NameServers
+        ∷ Lease6Variable.DomainSearch ∷ [] }
 {}

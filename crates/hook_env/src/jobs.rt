@@ -47,7 +47,9 @@ fn push_job_variable(
     situation: &Situation,
     variable: JobVariable,
 ) -> Result<(), NoMemory>
-    ensures { OnOk result (map variable_of into.new.items ≡ map variable_of into.old.items ++ job_said (situation_content situation.now) variable ∷ []) }
+    ensures { OnOk result
+        (map variable_of into.new.items
+        ≡ map variable_of into.old.items ++ job_said (situation_content situation.now) variable ∷ []) }
 {
     let value = job_value(*into.allocator(), situation, variable)?;
     push_variable(into, "", job_word(variable), value)
@@ -55,7 +57,9 @@ fn push_job_variable(
 
 /// Appends what each job says.
 fn add_job_variables(into: &mut Vec<HookVar>, situation: &Situation) -> Result<(), NoMemory>
-    ensures { OnOk result (map variable_of into.new.items ≡ map variable_of into.old.items ++ job_variables (situation_content situation.now)) }
+    ensures { OnOk result
+        (map variable_of into.new.items
+        ≡ map variable_of into.old.items ++ job_variables (situation_content situation.now)) }
 {
     for variable in JOB_VARIABLES {
         push_job_variable(into, situation, variable)?;
@@ -65,7 +69,9 @@ fn add_job_variables(into: &mut Vec<HookVar>, situation: &Situation) -> Result<(
 
 /// Appends what is held.
 fn add_held(into: &mut Vec<HookVar>, stage: Stage, held: &Held) -> Result<(), NoMemory>
-    ensures { OnOk result (map variable_of into.new.items ≡ map variable_of into.old.items ++ held_variables stage (held_content held.now)) }
+    ensures { OnOk result
+        (map variable_of into.new.items
+        ≡ map variable_of into.old.items ++ held_variables stage (held_content held.now)) }
 {
     match *held {
         Held::Nothing => Ok(()),
@@ -77,7 +83,9 @@ fn add_held(into: &mut Vec<HookVar>, stage: Stage, held: &Held) -> Result<(), No
 }
 
 fn add_if(into: &mut Vec<HookVar>, tells: bool, stage: Stage, held: &Held) -> Result<(), NoMemory>
-    ensures { OnOk result (map variable_of into.new.items ≡ map variable_of into.old.items ++ variables_if tells stage (held_content held.now)) }
+    ensures { OnOk result
+        (map variable_of into.new.items
+        ≡ map variable_of into.old.items ++ variables_if tells stage (held_content held.now)) }
 {
     if tells {
         add_held(into, stage, held)
@@ -89,7 +97,9 @@ fn add_if(into: &mut Vec<HookVar>, tells: bool, stage: Stage, held: &Held) -> Re
 /// Appends what is made of the situation.
 #[tactic(auto, using(std::proofs::Common::append_assoc))]
 fn add_made(into: &mut Vec<HookVar>, situation: &Situation) -> Result<(), NoMemory>
-    ensures { OnOk result (map variable_of into.new.items ≡ map variable_of into.old.items ++ made_variables (situation_content situation.now)) }
+    ensures { OnOk result
+        (map variable_of into.new.items
+        ≡ map variable_of into.old.items ++ made_variables (situation_content situation.now)) }
 {
     let before = tells_before(situation.reason);
     let now = tells_now(situation.reason);
@@ -98,9 +108,9 @@ fn add_made(into: &mut Vec<HookVar>, situation: &Situation) -> Result<(), NoMemo
     add_if(into, now, Stage::Now, &situation.held_now)
 }
 
-/// The job of a situation, without a number. Its variables are `interface`, `reason`, `ifcarrier` and `ifmetric`; then, where the
-/// reason tells of them, those with `old_` of the lease before, and those with `new_` of the lease since; then those
-/// that are configured (dhcpcd-run-hooks(8)).
+/// The job of a situation, without a number. Its variables are `interface`, `reason`, `ifcarrier` and `ifmetric`; then,
+/// where the reason tells of them, those with `old_` of the lease before, and those with `new_` of the lease since;
+/// then those that are configured (dhcpcd-run-hooks(8)).
 pub fn job(alloc: Global, situation: &Situation) -> Result<HookJob, NoMemory>
     ensures { IfOk result (λ made. job_of made ≡ job_of_situation (situation_content situation.now)) }
 {
@@ -128,7 +138,8 @@ pub fn lease_vars(alloc: Global, lease: &Lease4) -> Result<Vec<HookVar>, NoMemor
 
 /// The variables of a held DHCPv6 lease, with `new_` before their names.
 pub fn lease6_vars(alloc: Global, lease: &Lease6) -> Result<Vec<HookVar>, NoMemory>
-    ensures { IfOk result (λ vars. map variable_of vars.items ≡ lease6_variables stages.Now (lease6_content lease.now)) }
+    ensures { IfOk result
+        (λ vars. map variable_of vars.items ≡ lease6_variables stages.Now (lease6_content lease.now)) }
 {
     let mut vars = Vec::new(alloc);
     add_lease6(&mut vars, Stage::Now, lease)?;

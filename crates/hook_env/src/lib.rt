@@ -1,5 +1,5 @@
-//! The variables of a hook job, as text: what a script is told of its interface, of what was held before and of what is held
-//! now, whatever a server sent (dhcpcd-run-hooks(8)).
+//! The variables of a hook job, as text: what a script is told of its interface, of what was held before and of what is
+//! held now, whatever a server sent (dhcpcd-run-hooks(8)).
 //!
 //! `job` makes the job of a situation.
 #![tactic(auto)]

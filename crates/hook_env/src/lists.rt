@@ -10,7 +10,9 @@ use v4_options::ClasslessRoute;
 
 /// Appends each text behind a blank.
 fn add_others(list: &mut String, texts: &[String]) -> Result<(), AllocError>
-    ensures { OnOk result (string_bytes list.new ≡ string_bytes list.old ++ flat_map after_blank (map (λ text. string_bytes text) texts.now)) }
+    ensures { OnOk result
+        (string_bytes list.new
+        ≡ string_bytes list.old ++ flat_map after_blank (map (λ text. string_bytes text) texts.now)) }
 {
     for text in texts {
         list.push_str(" ")?;

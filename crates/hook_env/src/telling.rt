@@ -16,7 +16,9 @@ pub(crate) fn push_variable(
     word: &str,
     value: String,
 ) -> Result<(), NoMemory>
-    ensures { OnOk result (map variable_of into.new.items ≡ map variable_of into.old.items ++ variable (prefix.now ++ word.now) (string_bytes value) ∷ []) }
+    ensures { OnOk result
+        (map variable_of into.new.items
+        ≡ map variable_of into.old.items ++ variable (prefix.now ++ word.now) (string_bytes value) ∷ []) }
 {
     let mut name = String::from_str(*into.allocator(), prefix)?;
     name.push_str(word)?;
@@ -31,7 +33,9 @@ pub(crate) fn push_told(
     word: &str,
     value: String,
 ) -> Result<(), NoMemory>
-    ensures { OnOk result (map variable_of into.new.items ≡ map variable_of into.old.items ++ told stage word.now (string_bytes value) ∷ []) }
+    ensures { OnOk result
+        (map variable_of into.new.items
+        ≡ map variable_of into.old.items ++ told stage word.now (string_bytes value) ∷ []) }
 {
     push_variable(into, prefix(stage), word, value)
 }
@@ -43,7 +47,9 @@ pub(crate) fn push_if(
     word: &str,
     value: Option<String>,
 ) -> Result<(), NoMemory>
-    ensures { OnOk result (map variable_of into.new.items ≡ map variable_of into.old.items ++ told_if stage word.now (option_map string_bytes value)) }
+    ensures { OnOk result
+        (map variable_of into.new.items
+        ≡ map variable_of into.old.items ++ told_if stage word.now (option_map string_bytes value)) }
 {
     match value {
         Some(value) => push_told(into, stage, word, value),

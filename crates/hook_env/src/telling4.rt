@@ -34,7 +34,8 @@ fn push_net(
     net: Net4,
     variable: NetVariable,
 ) -> Result<(), NoMemory>
-    ensures { OnOk result (map variable_of into.new.items ≡ map variable_of into.old.items ++ net_told stage net variable ∷ []) }
+    ensures { OnOk result
+        (map variable_of into.new.items ≡ map variable_of into.old.items ++ net_told stage net variable ∷ []) }
 {
     let value = net_value(*into.allocator(), net, variable)?;
     push_told(into, stage, net_word(variable), value)
@@ -70,14 +71,18 @@ fn push_option(
     values: &[Value],
     variable: OptionVariable,
 ) -> Result<(), NoMemory>
-    ensures { OnOk result (map variable_of into.new.items ≡ map variable_of into.old.items ++ option_told stage (values_content values.now) variable) }
+    ensures { OnOk result
+        (map variable_of into.new.items
+        ≡ map variable_of into.old.items ++ option_told stage (values_content values.now) variable) }
 {
     let value = option_value(*into.allocator(), values, variable)?;
     push_if(into, stage, option_word(variable), value)
 }
 
 fn add_options(into: &mut Vec<HookVar>, stage: Stage, values: &[Value]) -> Result<(), NoMemory>
-    ensures { OnOk result (map variable_of into.new.items ≡ map variable_of into.old.items ++ option_variables stage (values_content values.now)) }
+    ensures { OnOk result
+        (map variable_of into.new.items
+        ≡ map variable_of into.old.items ++ option_variables stage (values_content values.now)) }
 {
     for variable in OPTION_VARIABLES {
         push_option(into, stage, values, variable)?;
@@ -88,7 +93,9 @@ fn add_options(into: &mut Vec<HookVar>, stage: Stage, values: &[Value]) -> Resul
 /// Appends how long a lease lasts and who granted it.
 #[tactic(auto, using(std::proofs::Common::append_assoc))]
 fn add_terms(into: &mut Vec<HookVar>, stage: Stage, lease: &Lease4) -> Result<(), NoMemory>
-    ensures { OnOk result (map variable_of into.new.items ≡ map variable_of into.old.items ++ term_variables stage (lease_content lease.now)) }
+    ensures { OnOk result
+        (map variable_of into.new.items
+        ≡ map variable_of into.old.items ++ term_variables stage (lease_content lease.now)) }
 {
     let alloc = *into.allocator();
     let time = format!(in alloc; "{}", lease.lease)?;
@@ -104,7 +111,9 @@ pub(crate) fn add_lease(
     stage: Stage,
     lease: &Lease4,
 ) -> Result<(), NoMemory>
-    ensures { OnOk result (map variable_of into.new.items ≡ map variable_of into.old.items ++ lease_variables stage (lease_content lease.now)) }
+    ensures { OnOk result
+        (map variable_of into.new.items
+        ≡ map variable_of into.old.items ++ lease_variables stage (lease_content lease.now)) }
 {
     add_net(into, stage, lease.net)?;
     add_options(into, stage, &lease.values)?;

@@ -23,7 +23,9 @@ use v6_options::{IaKind, code};
 use world::HookVar;
 
 fn add_addresses(texts: &mut Vec<String>, items: &[Item6]) -> Result<(), NoMemory>
-    ensures { OnOk result (map (λ text. string_bytes text) texts.new.items ≡ map (λ text. string_bytes text) texts.old.items ++ map address_item items.now) }
+    ensures { OnOk result
+        (map (λ text. string_bytes text) texts.new.items
+        ≡ map (λ text. string_bytes text) texts.old.items ++ map address_item items.now) }
 {
     let alloc = *texts.allocator();
     for item in items {
@@ -33,7 +35,9 @@ fn add_addresses(texts: &mut Vec<String>, items: &[Item6]) -> Result<(), NoMemor
 }
 
 fn add_prefixes(texts: &mut Vec<String>, items: &[Item6]) -> Result<(), NoMemory>
-    ensures { OnOk result (map (λ text. string_bytes text) texts.new.items ≡ map (λ text. string_bytes text) texts.old.items ++ map prefix_item items.now) }
+    ensures { OnOk result
+        (map (λ text. string_bytes text) texts.new.items
+        ≡ map (λ text. string_bytes text) texts.old.items ++ map prefix_item items.now) }
 {
     let alloc = *texts.allocator();
     for item in items {
@@ -43,7 +47,9 @@ fn add_prefixes(texts: &mut Vec<String>, items: &[Item6]) -> Result<(), NoMemory
 }
 
 fn add_ia_addresses(texts: &mut Vec<String>, ia: &IaLease) -> Result<(), NoMemory>
-    ensures { OnOk result (map (λ text. string_bytes text) texts.new.items ≡ map (λ text. string_bytes text) texts.old.items ++ ia_addresses (ia_content ia.now)) }
+    ensures { OnOk result
+        (map (λ text. string_bytes text) texts.new.items
+        ≡ map (λ text. string_bytes text) texts.old.items ++ ia_addresses (ia_content ia.now)) }
 {
     match ia.kind {
         IaKind::Na => add_addresses(texts, &ia.items),
@@ -52,7 +58,9 @@ fn add_ia_addresses(texts: &mut Vec<String>, ia: &IaLease) -> Result<(), NoMemor
 }
 
 fn add_ia_prefixes(texts: &mut Vec<String>, ia: &IaLease) -> Result<(), NoMemory>
-    ensures { OnOk result (map (λ text. string_bytes text) texts.new.items ≡ map (λ text. string_bytes text) texts.old.items ++ ia_prefixes (ia_content ia.now)) }
+    ensures { OnOk result
+        (map (λ text. string_bytes text) texts.new.items
+        ≡ map (λ text. string_bytes text) texts.old.items ++ ia_prefixes (ia_content ia.now)) }
 {
     match ia.kind {
         IaKind::Na => Ok(()),
@@ -61,7 +69,8 @@ fn add_ia_prefixes(texts: &mut Vec<String>, ia: &IaLease) -> Result<(), NoMemory
 }
 
 fn addresses_of(alloc: Global, ias: &[IaLease]) -> Result<Vec<String>, NoMemory>
-    ensures { IfOk result (λ texts. map (λ text. string_bytes text) texts.items ≡ flat_map ia_addresses (ias_content ias.now)) }
+    ensures { IfOk result
+        (λ texts. map (λ text. string_bytes text) texts.items ≡ flat_map ia_addresses (ias_content ias.now)) }
 {
     let mut texts = Vec::new(alloc);
     for ia in ias {
@@ -71,7 +80,8 @@ fn addresses_of(alloc: Global, ias: &[IaLease]) -> Result<Vec<String>, NoMemory>
 }
 
 fn prefixes_of(alloc: Global, ias: &[IaLease]) -> Result<Vec<String>, NoMemory>
-    ensures { IfOk result (λ texts. map (λ text. string_bytes text) texts.items ≡ flat_map ia_prefixes (ias_content ias.now)) }
+    ensures { IfOk result
+        (λ texts. map (λ text. string_bytes text) texts.items ≡ flat_map ia_prefixes (ias_content ias.now)) }
 {
     let mut texts = Vec::new(alloc);
     for ia in ias {
@@ -82,7 +92,8 @@ fn prefixes_of(alloc: Global, ias: &[IaLease]) -> Result<Vec<String>, NoMemory>
 
 /// The list of the texts, where there is one.
 fn some_listed(alloc: Global, texts: &[String]) -> Result<Option<String>, NoMemory>
-    ensures { IfOk result (λ list. option_map string_bytes list ≡ some_listed (map (λ text. string_bytes text) texts.now)) }
+    ensures { IfOk result
+        (λ list. option_map string_bytes list ≡ some_listed (map (λ text. string_bytes text) texts.now)) }
 {
     match texts {
         [] => Ok(None),
@@ -91,7 +102,9 @@ fn some_listed(alloc: Global, texts: &[String]) -> Result<Option<String>, NoMemo
 }
 
 fn servers_of(alloc: Global, values: &[Value]) -> Result<Option<String>, NoMemory>
-    ensures { IfOk result (λ text. option_map string_bytes text ≡ option_and_then servers6_text (value_in DNS_SERVERS (values_content values.now))) }
+    ensures { IfOk result
+        (λ text. option_map string_bytes text
+        ≡ option_and_then servers6_text (value_in DNS_SERVERS (values_content values.now))) }
 {
     match value_in(values, code::DNS_SERVERS) {
         Some(value) => servers6_text(alloc, value),
@@ -100,7 +113,9 @@ fn servers_of(alloc: Global, values: &[Value]) -> Result<Option<String>, NoMemor
 }
 
 fn names_of(alloc: Global, values: &[Value]) -> Result<Option<String>, NoMemory>
-    ensures { IfOk result (λ text. option_map string_bytes text ≡ option_and_then names6_text (value_in DOMAIN_LIST (values_content values.now))) }
+    ensures { IfOk result
+        (λ text. option_map string_bytes text
+        ≡ option_and_then names6_text (value_in DOMAIN_LIST (values_content values.now))) }
 {
     match value_in(values, code::DOMAIN_LIST) {
         Some(value) => names6_text(alloc, value),
@@ -129,7 +144,9 @@ fn push_lease6(
     lease: &Lease6,
     variable: Lease6Variable,
 ) -> Result<(), NoMemory>
-    ensures { OnOk result (map variable_of into.new.items ≡ map variable_of into.old.items ++ lease6_told stage (lease6_content lease.now) variable) }
+    ensures { OnOk result
+        (map variable_of into.new.items
+        ≡ map variable_of into.old.items ++ lease6_told stage (lease6_content lease.now) variable) }
 {
     let value = lease6_value(*into.allocator(), lease, variable)?;
     push_if(into, stage, lease6_word(variable), value)
@@ -141,7 +158,9 @@ pub(crate) fn add_lease6(
     stage: Stage,
     lease: &Lease6,
 ) -> Result<(), NoMemory>
-    ensures { OnOk result (map variable_of into.new.items ≡ map variable_of into.old.items ++ lease6_variables stage (lease6_content lease.now)) }
+    ensures { OnOk result
+        (map variable_of into.new.items
+        ≡ map variable_of into.old.items ++ lease6_variables stage (lease6_content lease.now)) }
 {
     for variable in LEASE6_VARIABLES {
         push_lease6(into, stage, lease, variable)?;
@@ -155,7 +174,8 @@ pub(crate) fn add_delegated(
     stage: Stage,
     net: Net6,
 ) -> Result<(), NoMemory>
-    ensures { OnOk result (map variable_of into.new.items ≡ map variable_of into.old.items ++ delegated_variables stage net) }
+    ensures { OnOk result
+        (map variable_of into.new.items ≡ map variable_of into.old.items ++ delegated_variables stage net) }
 {
     let alloc = *into.allocator();
     push_told(

@@ -37,7 +37,8 @@ after_both : (xs ys : List HostChange) (rows : List HostRow) → after_changes (
 after_both [] ys rows = refl
 after_both (x ∷ xs) ys rows = after_both xs ys (applied x rows)
 
-has_after_removals : (rs rows : List HostRow) → InRowOrder rows → (q : HostRow) → has_row (after_changes (map Remove rs) rows) q ≡ (not (has_row rs q) && has_row rows q)
+has_after_removals : (rs rows : List HostRow) → InRowOrder rows → (q : HostRow)
+    → has_row (after_changes (map Remove rs) rows) q ≡ (not (has_row rs q) && has_row rows q)
 has_after_removals [] rows s q = refl
 has_after_removals (r ∷ rs) rows s q =
     has_after_removals rs (without_row r rows) (without_in_order r rows s) q
@@ -50,7 +51,8 @@ has_after_removals (r ∷ rs) rows s q =
     neither false true c = refl
     neither false false c = refl
 
-has_after_additions : (more rows : List HostRow) → InRowOrder rows → (q : HostRow) → has_row (after_changes (map Add more) rows) q ≡ (has_row more q || has_row rows q)
+has_after_additions : (more rows : List HostRow) → InRowOrder rows → (q : HostRow)
+    → has_row (after_changes (map Add more) rows) q ≡ (has_row more q || has_row rows q)
 has_after_additions [] rows s q = refl
 has_after_additions (r ∷ more) rows s q =
     has_after_additions more (with_row r rows) (with_in_order r rows s) q
@@ -104,20 +106,23 @@ module _ (p : HostRow → Bool) where
   filter_applied : (c : HostChange) (rows : List HostRow) → InRowOrder rows → p (change_row c) ≡ true → filter p (applied c rows) ≡ applied c (filter p rows)
   filter_applied (Remove row) rows s passes =
       let few = filter_in_order p rows s in
-      same_rows (filter p (without_row row rows)) (without_row row (filter p rows)) (filter_in_order p (without_row row rows) (without_in_order row rows s)) (without_in_order row (filter p rows) few)
+      same_rows (filter p (without_row row rows)) (without_row row (filter p rows)) (filter_in_order p (without_row row rows) (without_in_order row rows s))
+      (without_in_order row (filter p rows) few)
       (λ q. has_filter p (without_row row rows) q
       ∙ ap (λ b. p q && b) (has_without row rows s q)
       ∙ exchanged (p q) (not (is_eq (row_cmp q row))) (has_row rows q)
       ∙ sym (has_without row (filter p rows) few q ∙ ap (λ b. not (is_eq (row_cmp q row)) && b) (has_filter p rows q)))
   filter_applied (Add row) rows s passes =
       let few = filter_in_order p rows s in
-      same_rows (filter p (with_row row rows)) (with_row row (filter p rows)) (filter_in_order p (with_row row rows) (with_in_order row rows s)) (with_in_order row (filter p rows) few)
+      same_rows (filter p (with_row row rows)) (with_row row (filter p rows)) (filter_in_order p (with_row row rows) (with_in_order row rows s))
+      (with_in_order row (filter p rows) few)
       (λ q. has_filter p (with_row row rows) q
       ∙ ap (λ b. p q && b) (has_with row rows s q)
       ∙ within (p q) (is_eq (row_cmp q row)) (has_row rows q) (λ here. same_answer p q row here ∙ passes)
       ∙ sym (has_with row (filter p rows) few q ∙ ap (λ b. b || is_eq (row_cmp q row)) (has_filter p rows q)))
 
-  pub filter_after : (cs : List HostChange) (rows : List HostRow) → InRowOrder rows → All (λ c. p (change_row c) ≡ true) cs → filter p (after_changes cs rows) ≡ after_changes cs (filter p rows)
+  pub filter_after : (cs : List HostChange) (rows : List HostRow) → InRowOrder rows → All (λ c. p (change_row c) ≡ true) cs
+      → filter p (after_changes cs rows) ≡ after_changes cs (filter p rows)
   filter_after [] rows s passes = refl
   filter_after (c ∷ cs) rows s passes =
       filter_after cs (applied c rows) (applied_in_order c rows s) (All-tail (λ x. p (change_row x) ≡ true) c cs passes)
@@ -136,7 +141,8 @@ module _ (p : HostRow → Bool) where
 
   filter_stays : (c : HostChange) (rows : List HostRow) → InRowOrder rows → p (change_row c) ≡ false → filter p (applied c rows) ≡ filter p rows
   filter_stays (Remove row) rows s fails =
-      same_rows (filter p (without_row row rows)) (filter p rows) (filter_in_order p (without_row row rows) (without_in_order row rows s)) (filter_in_order p rows s)
+      same_rows (filter p (without_row row rows)) (filter p rows) (filter_in_order p (without_row row rows) (without_in_order row rows s))
+      (filter_in_order p rows s)
       (λ q. has_filter p (without_row row rows) q
       ∙ ap (λ b. p q && b) (has_without row rows s q)
       ∙ without_one_less (p q) (is_eq (row_cmp q row)) (has_row rows q) (λ here. same_answer p q row here ∙ fails)
@@ -149,7 +155,8 @@ module _ (p : HostRow → Bool) where
       ∙ sym (has_filter p rows q))
 
   -- what holds of the known and of the wanted rows holds of the changes' rows
-  pub each_change : (b : Bool) (known wanted : List HostRow) → All (λ row. p row ≡ b) known → All (λ row. p row ≡ b) wanted → All (λ c. p (change_row c) ≡ b) (changes known wanted)
+  pub each_change : (b : Bool) (known wanted : List HostRow) → All (λ row. p row ≡ b) known → All (λ row. p row ≡ b) wanted
+      → All (λ c. p (change_row c) ≡ b) (changes known wanted)
   each_change b known wanted h k =
       let gone = rows_beyond wanted known in
       let more = rows_beyond known wanted in
@@ -170,18 +177,21 @@ module _ (failing : List ℕ) where
   told_in_order (c ∷ cs) told s = told_in_order cs (change_from (fails_next failing told) c told) (step_in_order (fails_next failing told) c told s)
 
   module _ (p : HostRow → Bool) where
-    step_stays : (fails : Bool) (c : HostChange) (told : HostTold) → InRowOrder told.rows → p (change_row c) ≡ false → filter p (change_from fails c told).rows ≡ filter p told.rows
+    step_stays : (fails : Bool) (c : HostChange) (told : HostTold) → InRowOrder told.rows → p (change_row c) ≡ false
+        → filter p (change_from fails c told).rows ≡ filter p told.rows
     step_stays true c told s outside = refl
     step_stays false c told s outside = filter_stays p c told.rows s outside
 
-    pub told_stays : (cs : List HostChange) (told : HostTold) → InRowOrder told.rows → All (λ c. p (change_row c) ≡ false) cs → filter p (told_changes failing cs told).told.rows ≡ filter p told.rows
+    pub told_stays : (cs : List HostChange) (told : HostTold) → InRowOrder told.rows → All (λ c. p (change_row c) ≡ false) cs
+        → filter p (told_changes failing cs told).told.rows ≡ filter p told.rows
     told_stays [] told s outside = refl
     told_stays (c ∷ cs) told s outside =
         let fails = fails_next failing told in
         told_stays cs (change_from fails c told) (step_in_order fails c told s) (All-tail (λ x. p (change_row x) ≡ false) c cs outside)
         ∙ step_stays fails c told s (All-head (λ x. p (change_row x) ≡ false) c cs outside)
 
-  pub told_done : (cs : List HostChange) (told : HostTold) → list_all (λ done. done) (told_changes failing cs told).answer ≡ true → (told_changes failing cs told).told.rows ≡ after_changes cs told.rows
+  pub told_done : (cs : List HostChange) (told : HostTold) → list_all (λ done. done) (told_changes failing cs told).answer ≡ true
+      → (told_changes failing cs told).told.rows ≡ after_changes cs told.rows
   told_done [] told e = refl
   told_done (c ∷ cs) told e =
       let fails = fails_next failing told in
@@ -193,7 +203,8 @@ module _ (failing : List ℕ) where
   call_done (Remove row) done = refl
   call_done (Add row) done = refl
 
-  pub calls_done : (cs : List HostChange) (told : HostTold) → list_all is_done (change_calls cs (told_changes failing cs told).answer) ≡ list_all (λ done. done) (told_changes failing cs told).answer
+  pub calls_done : (cs : List HostChange) (told : HostTold)
+      → list_all is_done (change_calls cs (told_changes failing cs told).answer) ≡ list_all (λ done. done) (told_changes failing cs told).answer
   calls_done [] told = refl
   calls_done (c ∷ cs) told =
       let fails = fails_next failing told in

@@ -76,7 +76,8 @@ module _ {K : Type 0} {R : K → K → Ordering} (o : IsTotalOrder R) where
   all_without : (P : K → Type 0) (test : K → Bool) (ks : List K) → AllByRecursion P ks → AllByRecursion P (remove_key test ks)
   all_without P test ks h = recursion_from_All P (remove_key test ks) (All-remove_key test P ks (All-from_recursion P ks h))
 
-  sorted_by : (k x : K) (xs ys : List K) (r : Ordering) → R k x ≡ r → IsStrictlySortedBy R (x ∷ xs) → (R x k ≡ Less → AllByRecursion (λ y. R x y ≡ Less) ys) → IsStrictlySortedBy R ys
+  sorted_by : (k x : K) (xs ys : List K) (r : Ordering) → R k x ≡ r → IsStrictlySortedBy R (x ∷ xs) → (R x k ≡ Less → AllByRecursion (λ y. R x y ≡ Less) ys)
+      → IsStrictlySortedBy R ys
       → IsStrictlySortedBy R (match_ordering r (k ∷ x ∷ xs) (x ∷ xs) (x ∷ ys))
   unfolding IsStrictlySortedBy
   sorted_by k x xs ys Less e s above t = ((e, each (λ y m. o.trans k x y e m) xs s.0), s)
@@ -103,7 +104,8 @@ module _ {K : Type 0} {R : K → K → Ordering} (o : IsTotalOrder R) where
   removed_by q k x xs ys s true e h =
       ⊎_elim
       (λ here. none_again q x xs s (sym alike ∙ (Equal-is (R q k)).0 here) ∙ sym (ap (λ b. not b && (is_eq (R q x) || list_any (is_at (R q)) xs)) here))
-      (λ there. sym (ap (λ b. not b && (is_eq (R q x) || list_any (is_at (R q)) xs)) there ∙ ap (λ b. b || list_any (is_at (R q)) xs) (ap is_eq (sym alike) ∙ there)))
+      (λ there. sym
+      (ap (λ b. not b && (is_eq (R q x) || list_any (is_at (R q)) xs)) there ∙ ap (λ b. b || list_any (is_at (R q)) xs) (ap is_eq (sym alike) ∙ there)))
       (cases_Bool (is_eq (R q k)))
     where
       alike : R q k ≡ R q x
@@ -154,7 +156,8 @@ empty_in_order = tt
 pub in_order_sorted : (rows : List HostRow) → InRowOrder (in_row_order rows)
 in_order_sorted rows = put_sorted [] rows empty_in_order
 
-pub has_with : (row : HostRow) (rows : List HostRow) → InRowOrder rows → (q : HostRow) → has_row (with_row row rows) q ≡ (has_row rows q || is_eq (row_cmp q row))
+pub has_with : (row : HostRow) (rows : List HostRow) → InRowOrder rows → (q : HostRow)
+    → has_row (with_row row rows) q ≡ (has_row rows q || is_eq (row_cmp q row))
 has_with row rows s q =
     ap (λ xs. has_row (with_row row xs) q) (sym (in_order_stays rows s))
     ∙ ap (λ xs. has_row xs q) (sym (put_in_order_more [] rows row))
@@ -166,7 +169,8 @@ has_with row rows s q =
     or_none true = refl
     or_none false = refl
 
-pub has_without : (row : HostRow) (rows : List HostRow) → InRowOrder rows → (q : HostRow) → has_row (without_row row rows) q ≡ (not (is_eq (row_cmp q row)) && has_row rows q)
+pub has_without : (row : HostRow) (rows : List HostRow) → InRowOrder rows → (q : HostRow)
+    → has_row (without_row row rows) q ≡ (not (is_eq (row_cmp q row)) && has_row rows q)
 has_without row rows s q = has_removed row_cmp_total q row rows s
 
 pub same_answer : (p : HostRow → Bool) (q row : HostRow) → is_eq (row_cmp q row) ≡ true → p q ≡ p row

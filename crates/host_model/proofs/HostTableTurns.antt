@@ -32,7 +32,8 @@ module _ (failing : List ℕ) where
         let not_other : (rows : List HostRow) → AllPass (is_managed managed) rows → All (λ row. not (is_managed managed row) ≡ false) rows =
         λ rows passes k d lt. not_from_true _ (passes k d lt) in
         told_stays failing (λ row. not (is_managed managed row)) (changes known wanted) told s
-        (each_change (λ row. not (is_managed managed row)) false known wanted (not_other known (on_managed_alone known told.rows truly)) (not_other wanted w.on_managed))
+        (each_change (λ row. not (is_managed managed row)) false known wanted (not_other known (on_managed_alone known told.rows truly))
+        (not_other wanted w.on_managed))
 
     -- where all changes are done
     kept_apart : (known : List HostRow) (told : HostTold) → InRowOrder told.rows → known ≡ managed_rows managed told.rows
@@ -40,11 +41,13 @@ module _ (failing : List ℕ) where
         → managed_rows managed (told_changes failing (changes known wanted) told).told.rows ≡ after_changes (changes known wanted) known
     kept_apart known told s truly done =
         ap (filter (is_managed managed)) (told_done failing (changes known wanted) told done)
-        ∙ filter_after (is_managed managed) (changes known wanted) told.rows s (each_change (is_managed managed) true known wanted (on_managed_alone known told.rows truly) w.on_managed)
+        ∙ filter_after (is_managed managed) (changes known wanted) told.rows s
+        (each_change (is_managed managed) true known wanted (on_managed_alone known told.rows truly) w.on_managed)
         ∙ ap (after_changes (changes known wanted)) (sym truly)
 
     stays_true : (learned : Option (List HostRow)) (told : HostTold) → InRowOrder told.rows → KnownTruly managed learned told.rows
-        → KnownTruly managed (known_from learned wanted (told_changes failing (changes_from learned wanted) told).answer) (told_changes failing (changes_from learned wanted) told).told.rows
+        → KnownTruly managed (known_from learned wanted (told_changes failing (changes_from learned wanted) told).answer)
+        (told_changes failing (changes_from learned wanted) told).told.rows
     stays_true None told s truly = tt
     stays_true (Some known) told s truly =
         let step = told_changes failing (changes known wanted) told in
@@ -93,7 +96,8 @@ module _ (failing : List ℕ) where
           known = stays_true learned listing.told s (learnt_true table.known table.told t.in_order t.known);
         }
 
-    pub turn_leaves_others : (table : Table) → TrueTable managed table → other_rows managed (table_turned managed failing wanted table).told.rows ≡ other_rows managed table.told.rows
+    pub turn_leaves_others : (table : Table) → TrueTable managed table
+        → other_rows managed (table_turned managed failing wanted table).told.rows ≡ other_rows managed table.told.rows
     turn_leaves_others table t =
         let listing = told_listing failing table.known table.told in
         let learned = learnt managed table.known listing.answer in
@@ -105,18 +109,22 @@ module _ (failing : List ℕ) where
     listing_some None done = absurd (false≢true done)
     listing_some (Some rows) done = refl
 
-    learnt_some : (known listing : Option (List HostRow)) → list_all is_done (listing_calls known listing) ≡ true → is_some (learnt managed known listing) ≡ true
+    learnt_some : (known listing : Option (List HostRow)) → list_all is_done (listing_calls known listing) ≡ true
+        → is_some (learnt managed known listing) ≡ true
     learnt_some (Some known) listing done = refl
     learnt_some None listing done = listing_some listing done
 
-    pub turn_holds : (table : Table) → TrueTable managed table → NoneFails managed failing wanted table → Holds managed wanted table.told.rows (table_turned managed failing wanted table).told.rows
+    pub turn_holds : (table : Table) → TrueTable managed table → NoneFails managed failing wanted table
+        → Holds managed wanted table.told.rows (table_turned managed failing wanted table).told.rows
     turn_holds table t none =
         let listing = told_listing failing table.known table.told in
         let learned = learnt managed table.known listing.answer in
         let cs = changes_from learned wanted in
         let asked = listing_calls table.known listing.answer in
         let made = change_calls cs (told_changes failing cs listing.told).answer in
-        let parts = and_parts (list_all is_done asked) (list_all is_done made) (sym (list_all-append is_done asked made) ∙ list_all-from_AllPass is_done (asked ++ made) none) in
+        let parts =
+        and_parts (list_all is_done asked) (list_all is_done made)
+        (sym (list_all-append is_done asked made) ∙ list_all-from_AllPass is_done (asked ++ made) none) in
         record {
           as_wanted = reached learned listing.told (listed_in_order table.known table.told t.in_order) (learnt_true table.known table.told t.in_order t.known)
               (learnt_some table.known listing.answer parts.0) (sym (calls_done failing cs listing.told) ∙ parts.1);
@@ -129,7 +137,8 @@ module _ (failing : List ℕ) where
   listing_done true told e = absurd (false≢true (sym e))
   listing_done false told e = refl
 
-  asked_done : (known : Option (List HostRow)) (told : HostTold) → AllPast failing told → list_all is_done (listing_calls known (told_listing failing known told).answer) ≡ true
+  asked_done : (known : Option (List HostRow)) (told : HostTold) → AllPast failing told
+      → list_all is_done (listing_calls known (told_listing failing known told).answer) ≡ true
   asked_done (Some known) told past = refl
   asked_done None told past = listing_done (fails_next failing told) told (fails_no_more failing told past)
 
@@ -149,4 +158,5 @@ module _ (failing : List ℕ) where
       let made = change_calls cs (told_changes failing cs listing.told).answer in
       AllPass-from_list_all is_done (asked ++ made)
       (list_all-append is_done asked made
-      ∙ ap₂ (λ a b. a && b) (asked_done table.known table.told past) (calls_done failing cs listing.told ∙ all_done failing cs listing.told (asked_past table.known table.told past)))
+      ∙ ap₂ (λ a b. a && b) (asked_done table.known table.told past)
+      (calls_done failing cs listing.told ∙ all_done failing cs listing.told (asked_past table.known table.told past)))

@@ -21,7 +21,8 @@ OthersStay managed failing wanted table =
 -- where no call fails, the host has exactly the wanted rows on managed interfaces
 abbrev pub IsReached : List Managed → List ℕ → List HostRow → Table → Type 0
 IsReached managed failing wanted table =
-    NoneFails managed failing wanted table → managed_rows managed (table_turned managed failing wanted table).told.rows ≡ wanted
+    NoneFails managed failing wanted table
+    → managed_rows managed (table_turned managed failing wanted table).told.rows ≡ wanted
 
 -- no call fails once those that fail are past
 abbrev pub Recovers : Type 0

@@ -65,7 +65,8 @@ is_done (Removed row done) = done
 
 -- no host call of the turn fails
 abbrev pub NoneFails : List Managed → List ℕ → List HostRow → Table → Type 0
-NoneFails managed failing wanted table = AllPass is_done (host_calls managed table.known wanted (table_met managed failing wanted table))
+NoneFails managed failing wanted table =
+    AllPass is_done (host_calls managed table.known wanted (table_met managed failing wanted table))
 
 -- the calls that fail are past
 abbrev pub AllPast : List ℕ → HostTold → Type 0

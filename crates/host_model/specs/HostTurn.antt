@@ -10,7 +10,8 @@ use Rattle.host_model.specs.declared.changes.HostChange.TheVariants.{Remove, Add
 use Rattle.settings.specs.declared.interfaces.Managed.{Managed}
 use Rattle.settings.specs.ManagedRows.{is_managed}
 
--- what the host answered in a turn: the rows of a listing in row order, nothing where it failed; and for each change whether it was done
+-- what the host answered in a turn: the rows of a listing in row order, nothing where it failed; and for each change
+-- whether it was done
 pub record HostMet : Type 0 where
   pub listing : Option (List HostRow)
   pub outcomes : List Bool

@@ -16,7 +16,8 @@ same_target (Addr i a) b = false
 same_target (Route i a via_a m) (Addr j b) = false
 same_target (Route i a via_a m) (Route j b via_b n) = same_net a b && (m == n)
 
--- such a route gives way to that of an interface with a lower number, and on one interface to the one that row order puts first
+-- such a route gives way to that of an interface with a lower number, and on one interface to the one that row order
+-- puts first
 abbrev pub goes_before : HostRow → HostRow → Bool
 goes_before a b =
     nat_lt (row_iface a) (row_iface b) || ((row_iface a == row_iface b) && is_lt (row_cmp a b))

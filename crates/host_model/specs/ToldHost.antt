@@ -18,7 +18,8 @@ pub record HostStep (A : Type 0) : Type 0 where
 
 abbrev pub listing_from : Bool → HostTold → HostStep (Option (List HostRow))
 listing_from true told = record { answer = None; told = host_answered (Listed None) told.rows told }
-listing_from false told = record { answer = Some told.rows; told = host_answered (Listed (Some told.rows)) told.rows told }
+listing_from false told =
+    record { answer = Some told.rows; told = host_answered (Listed (Some told.rows)) told.rows told }
 
 abbrev pub told_listing : List ℕ → Option (List HostRow) → HostTold → HostStep (Option (List HostRow))
 told_listing failing (Some known) told = record { answer = None; told = told }
@@ -32,7 +33,8 @@ change_from true change told = host_answered (change_call change false) told.row
 change_from false change told = host_answered (change_call change true) (applied change told.rows) told
 
 abbrev pub told_change : HostChange → List ℕ → HostTold → HostStep Bool
-told_change change failing told = record { answer = not (fails_next failing told); told = change_from (fails_next failing told) change told }
+told_change change failing told =
+    record { answer = not (fails_next failing told); told = change_from (fails_next failing told) change told }
 
 abbrev pub told_changes : List ℕ → List HostChange → HostTold → HostStep (List Bool)
 told_changes failing [] told = record { answer = []; told = told }
@@ -54,8 +56,10 @@ abbrev pub told_host_for : List Managed → Option (List HostRow) → List HostR
 told_host_for managed known wanted failing told = told_host managed failing known wanted told
 
 -- Where the host tells what it holds and which calls fail, what it answers and what it tells then are determined.
-abbrev pub Determined : {A : Type 0} → (List ℕ → HostTold → HostStep A) → Option (List ℕ) → Option HostTold → A → Option HostTold → Type 0
+abbrev pub Determined : {A : Type 0} → (List ℕ → HostTold → HostStep A) → Option (List ℕ) → Option HostTold → A
+    → Option HostTold → Type 0
 Determined step None None answer new = new ≡ None
 Determined step (Some failing) None answer new = new ≡ None
 Determined step None (Some told) answer new = Unit {0}
-Determined step (Some failing) (Some told) answer new = (answer ≡ (step failing told).answer) × (new ≡ Some (step failing told).told)
+Determined step (Some failing) (Some told) answer new =
+    (answer ≡ (step failing told).answer) × (new ≡ Some (step failing told).told)

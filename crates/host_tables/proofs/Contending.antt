@@ -75,14 +75,16 @@ passed_by_none p (x ∷ rows) none =
     ∙ passed_by_none p rows (λ row has. none row (or_more (is_eq (row_cmp row x)) (has_row rows row) has))
 
 -- the same of two lists, where what passes in one is among the other
-pub passed_alike : (p : HostRow → Bool) (xs ys : List HostRow) → ((row : HostRow) → p row ≡ true → has_row xs row ≡ has_row ys row) → list_any p xs ≡ list_any p ys
+pub passed_alike : (p : HostRow → Bool) (xs ys : List HostRow) → ((row : HostRow) → p row ≡ true → has_row xs row ≡ has_row ys row)
+    → list_any p xs ≡ list_any p ys
 passed_alike p xs ys same =
     split (list_any p ys)
     (λ some. split (list_any p xs) (λ here. here ∙ sym some)
     (λ none. absurd (false≢true (sym (passed_by_none p ys (λ row has. fails xs ys same none row has)) ∙ some))))
     (λ none. passed_by_none p xs (λ row has. fails ys xs (λ r passes. sym (same r passes)) none row has) ∙ sym none)
   where
-    fails : (us vs : List HostRow) → ((row : HostRow) → p row ≡ true → has_row us row ≡ has_row vs row) → list_any p us ≡ false → (row : HostRow) → has_row vs row ≡ true → p row ≡ false
+    fails : (us vs : List HostRow) → ((row : HostRow) → p row ≡ true → has_row us row ≡ has_row vs row) → list_any p us ≡ false → (row : HostRow)
+        → has_row vs row ≡ true → p row ≡ false
     fails us vs alike none row has =
         split (p row) (λ passes. absurd (false≢true (sym none ∙ passed_among p us row (alike row passes ∙ has) passes))) (λ no. no)
 

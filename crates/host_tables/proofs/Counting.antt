@@ -42,7 +42,8 @@ fewer_times (suc a) (suc b) d le = let less = fewer_times a b d (omega arith) in
 
 -- the steps of a change, of its heads, bringings, lists and wanted rows
 pub all_steps : (m k d gone come start a b c e f g h end : ℕ) → gone ≤ m + k → come ≤ m + k
-    → a ≤ start + (m + k) * (2 * (d + 1)) → b ≤ a + m * d → c ≤ b + k * d → e ≤ c + (m + k) * (2 * (d + 1)) → f ≤ e + (m + k) + (m + k) → g ≤ f + (m + k) + (m + k)
+    → a ≤ start + (m + k) * (2 * (d + 1)) → b ≤ a + m * d → c ≤ b + k * d → e ≤ c + (m + k) * (2 * (d + 1)) → f ≤ e + (m + k) + (m + k)
+    → g ≤ f + (m + k) + (m + k)
     → h ≤ g + gone * d → end ≤ h + come * d → end ≤ start + most_steps (m + k) d
 all_steps m k d gone come start a b c e f g h end few_gone few_come heads out brought heads_after left_gone left_come removed added =
     let less = fewer_times gone (m + k) d few_gone in

@@ -82,7 +82,8 @@ module _ (a b c : List HostRow) (sorted_a : InRowOrder a) (sorted_b : InRowOrder
   gone_then_is : (q : HostRow) → has_row gone_then q ≡ gone_amid (has_row a q) (has_row b q) (has_row c q)
   gone_then_is q =
       takes.goes q
-      ∙ ap₂ (λ (x y : Bool). x || y) (of_beyond gone b a q is_gone) (ap₂ (λ (x y : Bool). not x && y) (of_beyond come a b q is_come) (of_beyond went c b q is_went))
+      ∙ ap₂ (λ (x y : Bool). x || y) (of_beyond gone b a q is_gone)
+      (ap₂ (λ (x y : Bool). not x && y) (of_beyond come a b q is_come) (of_beyond went c b q is_went))
 
   come_then_is : (q : HostRow) → has_row come_then q ≡ ((not (has_row a q) && has_row b q) && not (not (has_row c q) && has_row b q))
   come_then_is q = takes.leaves q ∙ ap₂ (λ (x y : Bool). x && not y) (of_beyond come a b q is_come) (of_beyond went c b q is_went)

@@ -30,7 +30,8 @@ set_at (x ∷ places) (suc k) rows lt = set_at places k rows (omega arith)
 suc_apart : (m k : ℕ) → nat_eq (suc m) (suc k) ≡ false → nat_eq m k ≡ false
 suc_apart m k apart = grind (arith, nat_tests)
 
-set_apart : (places : List (List HostRow)) (place at : ℕ) (rows : List HostRow) → nat_eq at place ≡ false → get_or (set places place rows) at [] ≡ get_or places at []
+set_apart : (places : List (List HostRow)) (place at : ℕ) (rows : List HostRow) → nat_eq at place ≡ false
+    → get_or (set places place rows) at [] ≡ get_or places at []
 set_apart [] place at rows apart = refl
 set_apart (x ∷ places) zero zero rows apart = let never : true ≡ false = apart in cc
 set_apart (x ∷ places) zero (suc m) rows apart = refl
@@ -67,7 +68,8 @@ exchanged_bringings places place before after was now new lt is whole out come q
 
 -- ---- the rows of all places
 
-all_has : (rows : List HostRow) (places : List (List HostRow)) (q : HostRow) → has_row (all_rows (rows ∷ places)) q ≡ (has_row rows q || has_row (all_rows places) q)
+all_has : (rows : List HostRow) (places : List (List HostRow)) (q : HostRow)
+    → has_row (all_rows (rows ∷ places)) q ≡ (has_row rows q || has_row (all_rows places) q)
 all_has rows places q = list_any-append (is_at (row_cmp q)) rows (all_rows places)
 
 at_some : (places : List (List HostRow)) (q : HostRow) (at : ℕ) → has_row (get_or places at []) q ≡ true → has_row (all_rows places) q ≡ true
@@ -97,7 +99,8 @@ same_rows_brought places bs whole q =
 
 pub same_stands : (xs ys : List HostRow) → ((q : HostRow) → has_row xs q ≡ has_row ys q) → (q : HostRow) → stands xs q ≡ stands ys q
 same_stands xs ys same q =
-    ap (λ (b : Bool). not b && has_row xs q) (passed_alike (λ other. outranks other q) xs ys (λ row passes. same row)) ∙ ap (λ (b : Bool). is_kept ys q && b) (same q)
+    ap (λ (b : Bool). not b && has_row xs q) (passed_alike (λ other. outranks other q) xs ys (λ row passes. same row))
+    ∙ ap (λ (b : Bool). is_kept ys q && b) (same q)
 
 -- ---- what stands for other targets stays
 
@@ -107,19 +110,24 @@ exchanged_has [] place after q lt none out = absurd (omega arith)
 exchanged_has (rows ∷ places) zero after q lt none out =
     all_has after places q ∙ ap (λ (b : Bool). b || has_row (all_rows places) q) (out ∙ sym none) ∙ sym (all_has rows places q)
 exchanged_has (rows ∷ places) (suc k) after q lt none out =
-    all_has rows (set places k after) q ∙ ap (λ (b : Bool). has_row rows q || b) (exchanged_has places k after q (omega arith) none out) ∙ sym (all_has rows places q)
+    all_has rows (set places k after) q ∙ ap (λ (b : Bool). has_row rows q || b) (exchanged_has places k after q (omega arith) none out)
+    ∙ sym (all_has rows places q)
 
 -- what contends with none of these isn't one of them
 not_among : (rows : List HostRow) (q o : HostRow) → contends q o ≡ true → list_any (contends q) rows ≡ false → has_row rows o ≡ false
 not_among rows q o same none =
     split (has_row rows o) (λ has. absurd (false≢true (sym none ∙ passed_among (contends q) rows o has same))) (λ no. no)
 
-stays_standing : (places : List (List HostRow)) (place : ℕ) (before after : List HostRow) (q : HostRow) → place < length places → before ≡ get_or places place []
+stays_standing : (places : List (List HostRow)) (place : ℕ) (before after : List HostRow) (q : HostRow) → place < length places
+    → before ≡ get_or places place []
     → list_any (contends q) before ≡ false → list_any (contends q) after ≡ false
     → stands (all_rows places) q ≡ stands (all_rows (set places place after)) q
 stays_standing places place before after q lt is none out =
     let same : (o : HostRow) → contends q o ≡ true → has_row (all_rows places) o ≡ has_row (all_rows (set places place after)) o =
-    λ o one. sym (exchanged_has places place after o lt (ap (λ (rows : List HostRow). has_row rows o) (sym is) ∙ not_among before q o one none) (not_among after q o one out)) in
+    λ o one. sym
+    (exchanged_has places place after o lt (ap (λ (rows : List HostRow). has_row rows o) (sym is) ∙ not_among before q o one none)
+    (not_among after q o one out))
+    in
     ap (λ (b : Bool). not b && has_row (all_rows places) q)
     (passed_alike (λ other. outranks other q) (all_rows places) (all_rows (set places place after))
     (λ o above. same o (contends_turned o q (and_parts (contends o q) _ (sym (outranks_is o q) ∙ above)).0)))
@@ -163,7 +171,8 @@ module _ (place : ℕ) (before after : List HostRow) (old out new : Union) (stoo
 
   wholly : (q : HostRow) (at : ℕ) → has_bringing new.brought.items q at ≡ has_row (get_or later at []) q
   wholly =
-      exchanged_bringings places place before after (has_bringing old.brought.items) (has_bringing out.brought.items) (has_bringing new.brought.items) lt is unites.brought
+      exchanged_bringings places place before after (has_bringing old.brought.items) (has_bringing out.brought.items)
+      (has_bringing new.brought.items) lt is unites.brought
       steps.takes_out.brought steps.brings.brought
 
   module _ (q : HostRow) where
@@ -210,7 +219,8 @@ module _ (place : ℕ) (before after : List HostRow) (old out new : Union) (stoo
         (ap (λ (rows : List HostRow). has_row rows q) steps.come ∙ come_is)
         ∙ updated_is was will
 
-    beyond_has : (from to : List (List HostRow)) → has_row (rows_beyond (wanted_of to) (wanted_of from)) q ≡ (not (stands (all_rows to) q) && stands (all_rows from) q)
+    beyond_has : (from to : List (List HostRow))
+        → has_row (rows_beyond (wanted_of to) (wanted_of from)) q ≡ (not (stands (all_rows to) q) && stands (all_rows from) q)
     beyond_has from to =
         has_filter (λ row. not (has_row (wanted_of to) row)) (wanted_of from) q ∙ ap₂ (λ (a b : Bool). not a && b) (wanted_has to q) (wanted_has from q)
 
@@ -226,11 +236,13 @@ module _ (place : ℕ) (before after : List HostRow) (old out new : Union) (stoo
       gone = steps.gone
           ∙ same_rows (rows_beyond stand.items stood.items) (rows_beyond (wanted_of later) (wanted_of places))
           (filter_in_order (λ row. not (has_row stand.items row)) stood.items steps.heads_before.in_order)
-          (filter_in_order (λ row. not (has_row (wanted_of later) row)) (wanted_of places) (wanted_sorted places)) (λ q. gone_is q ∙ sym (beyond_has q places later));
+          (filter_in_order (λ row. not (has_row (wanted_of later) row)) (wanted_of places) (wanted_sorted places))
+          (λ q. gone_is q ∙ sym (beyond_has q places later));
       come = steps.come
           ∙ same_rows (rows_beyond stood.items stand.items) (rows_beyond (wanted_of places) (wanted_of later))
           (filter_in_order (λ row. not (has_row stood.items row)) stand.items steps.heads_after.in_order)
-          (filter_in_order (λ row. not (has_row (wanted_of places) row)) (wanted_of later) (wanted_sorted later)) (λ q. come_is q ∙ sym (beyond_has q later places));
+          (filter_in_order (λ row. not (has_row (wanted_of places) row)) (wanted_of later) (wanted_sorted later))
+          (λ q. come_is q ∙ sym (beyond_has q later places));
     };
   }
 

@@ -49,12 +49,14 @@ among_own place (row ∷ rows) q has =
     (λ there. or_more (is_eq (bringing_cmp (record { row = q; place = place }) (record { row = row; place = place }))) _
     (among_own place rows q (sym (ap (λ (b : Bool). b || has_row rows q) there) ∙ has)))
 
-among_all : (from : ℕ) (places : List (List HostRow)) (q : HostRow) (at n : ℕ) → n ≡ at + from → has_row (get_or places at []) q ≡ true → has_bringing (all_bringings from places) q n ≡ true
+among_all : (from : ℕ) (places : List (List HostRow)) (q : HostRow) (at n : ℕ) → n ≡ at + from → has_row (get_or places at []) q ≡ true
+    → has_bringing (all_bringings from places) q n ≡ true
 among_all from [] q at n is has = absurd (false≢true has)
 among_all from (rows ∷ places) q zero n is has =
     let here : from ≡ n = omega arith in
     list_any-append (is_at (bringing_cmp (record { row = q; place = n }))) (bringings_of from rows) (all_bringings (suc from) places)
-    ∙ or_is _ (has_bringing (all_bringings (suc from) places) q n) (subst (λ (m : ℕ). has_bringing (bringings_of from rows) q m ≡ true) here (among_own from rows q has))
+    ∙ or_is _ (has_bringing (all_bringings (suc from) places) q n)
+    (subst (λ (m : ℕ). has_bringing (bringings_of from rows) q m ≡ true) here (among_own from rows q has))
 among_all from (rows ∷ places) q (suc at) n is has =
     list_any-append (is_at (bringing_cmp (record { row = q; place = n }))) (bringings_of from rows) (all_bringings (suc from) places)
     ∙ or_more (has_bringing (bringings_of from rows) q n) _ (among_all (suc from) places q at n (omega arith) has)
@@ -88,7 +90,8 @@ few_of_new (x ∷ places) (suc k) rows lt =
     let both = length-append x (all_rows (set places k rows)) in let more = few_of_new places k rows (omega arith) in omega arith
 
 pub are_few : (places : List (List HostRow)) (old new : Union) (place : ℕ) (before after : List HostRow) (d : ℕ) → Unites places old
-    → Unites (set places place after) new → place < length places → before ≡ get_or places place [] → HaveDigits d places place after → AreFew d before after old new
+    → Unites (set places place after) new → place < length places → before ≡ get_or places place [] → HaveDigits d places place after
+    → AreFew d before after old new
 are_few places old new place before after d unites unites_now lt is few =
     let brought = few_brought places old unites in
     let brings = few_brought (set places place after) new unites_now in

@@ -72,13 +72,17 @@ not_gt : (r : Ordering) → r ≡ Equal → is_gt r ≡ false
 not_gt r e = ap is_gt e
 
 -- its interface and way are the lowest
-least_of_own : (row : HostRow) (place : ℕ) → is_gt (ordering_then (nat_cmp (row_iface (target_of row)) (row_iface row)) (ordering_then (row_cmp (target_of row) row) (nat_cmp 0 place))) ≡ false
+least_of_own : (row : HostRow) (place : ℕ)
+    → is_gt (ordering_then (nat_cmp (row_iface (target_of row)) (row_iface row)) (ordering_then (row_cmp (target_of row) row) (nat_cmp 0 place))) ≡ false
 least_of_own (Addr i a) place =
-    not_above _ _ (not_gt _ (tied_itself nat_cmp_total i.number)) (λ _. not_above _ _ (not_gt _ (tied_itself row_cmp_total (Addr i a))) (λ _. none_below_zero place))
+    not_above _ _ (not_gt _ (tied_itself nat_cmp_total i.number))
+    (λ _. not_above _ _ (not_gt _ (tied_itself row_cmp_total (Addr i a))) (λ _. none_below_zero place))
 least_of_own (Route i a Ways.OnLink m) place =
     not_above (nat_cmp 0 i.number) _ (none_below_zero i.number)
     (λ same. not_above _ _
-    (not_gt _ (ap (λ (n : ℕ). row_cmp (Route (record { number = n }) a Ways.OnLink m) (Route i a Ways.OnLink m)) (same_number 0 i.number same) ∙ tied_itself row_cmp_total (Route i a Ways.OnLink m)))
+    (not_gt _
+    (ap (λ (n : ℕ). row_cmp (Route (record { number = n }) a Ways.OnLink m) (Route i a Ways.OnLink m)) (same_number 0 i.number same)
+    ∙ tied_itself row_cmp_total (Route i a Ways.OnLink m)))
     (λ _. none_below_zero place))
 least_of_own (Route i a Ways.Reject m) place = not_above (nat_cmp 0 i.number) _ (none_below_zero i.number) (λ _. refl)
 least_of_own (Route i a (Ways.Gate4 g) m) place = not_above (nat_cmp 0 i.number) _ (none_below_zero i.number) (λ _. refl)
@@ -92,7 +96,8 @@ bringing row place = record { row = row; place = place }
 
 own_beginning : (row : HostRow) (place : ℕ) → IsLeBy bringing_cmp (beginning row) (bringing row place)
 own_beginning row place =
-    not_above _ _ (not_gt _ (ap (λ (t : HostRow). row_cmp t (target_of row)) (target_twice row) ∙ tied_itself row_cmp_total (target_of row))) (λ _. least_of_own row place)
+    not_above _ _ (not_gt _ (ap (λ (t : HostRow). row_cmp t (target_of row)) (target_twice row) ∙ tied_itself row_cmp_total (target_of row)))
+    (λ _. least_of_own row place)
 
 -- what has the target is at or after it
 at_beginning : (row q : HostRow) (place : ℕ) → contends q row ≡ true → IsLeBy bringing_cmp (beginning row) (bringing q place)
@@ -100,7 +105,8 @@ at_beginning row q place same =
     subst (λ (t : HostRow). IsLeBy bringing_cmp (record { row = t; place = 0 }) (bringing q place)) (one_target q row same) (own_beginning q place)
 
 -- what stands between the beginning of a target and what has it, has it too
-between : (row q : HostRow) (k : Bringing) (place : ℕ) → contends q row ≡ true → IsLeBy bringing_cmp (beginning row) k → IsLeBy bringing_cmp k (bringing q place)
+between : (row q : HostRow) (k : Bringing) (place : ℕ) → contends q row ≡ true → IsLeBy bringing_cmp (beginning row) k
+    → IsLeBy bringing_cmp k (bringing q place)
     → contends k.row row ≡ true
 between row q k place same low high =
     let above : is_gt (row_cmp (target_of row) (target_of k.row)) ≡ false =
@@ -149,9 +155,13 @@ bringer (b ∷ bs) row has =
 bringing_is : (x row : HostRow) (place at : ℕ) → is_eq (bringing_cmp (bringing x place) (bringing row at)) ≡ (nat_eq at place && is_eq (row_cmp row x))
 bringing_is x row place at =
     split (is_eq (row_cmp row x))
-    (λ same. ap (λ (r : HostRow). is_eq (bringing_cmp (bringing r place) (bringing row at))) (sym (row_is row x same)) ∙ own row ∙ sym (ap (λ (b : Bool). nat_eq at place && b) same ∙ and_on (nat_eq at place)))
+    (λ same. ap (λ (r : HostRow). is_eq (bringing_cmp (bringing r place) (bringing row at))) (sym (row_is row x same)) ∙ own row
+    ∙ sym (ap (λ (b : Bool). nat_eq at place && b) same ∙ and_on (nat_eq at place)))
     (λ apart. split (is_eq (bringing_cmp (bringing x place) (bringing row at)))
-    (λ tied. absurd (false≢true (sym apart ∙ ap (λ (r : HostRow). is_eq (row_cmp r x)) (sym (row_is x row (third_tied _ _ (row_cmp x row) (nat_cmp place at) tied))) ∙ row_itself x)))
+    (λ tied. absurd
+    (false≢true
+    (sym apart ∙ ap (λ (r : HostRow). is_eq (row_cmp r x)) (sym (row_is x row (third_tied _ _ (row_cmp x row) (nat_cmp place at) tied)))
+    ∙ row_itself x)))
     (λ no. no ∙ sym (ap (λ (b : Bool). nat_eq at place && b) apart ∙ off_last (nat_eq at place) false refl)))
   where
     and_on : (a : Bool) → (a && true) ≡ a
@@ -160,7 +170,8 @@ bringing_is x row place at =
 
     all_tied : (t i r n : Ordering) → t ≡ Equal → i ≡ Equal → r ≡ Equal → is_eq (ordering_then t (ordering_then i (ordering_then r n))) ≡ is_eq n
     all_tied t i r n a b c =
-        ap (λ (o : Ordering). is_eq (ordering_then o (ordering_then i (ordering_then r n)))) a ∙ ap (λ (o : Ordering). is_eq (ordering_then o (ordering_then r n))) b
+        ap (λ (o : Ordering). is_eq (ordering_then o (ordering_then i (ordering_then r n)))) a
+        ∙ ap (λ (o : Ordering). is_eq (ordering_then o (ordering_then r n))) b
         ∙ ap (λ (o : Ordering). is_eq (ordering_then o n)) c
 
     number_turned : (m n : ℕ) → nat_eq m n ≡ nat_eq n m
@@ -173,7 +184,9 @@ bringing_is x row place at =
 
 -- the other way about
 pub bringing_at : (row x : HostRow) (at place : ℕ) → is_eq (bringing_cmp (bringing row at) (bringing x place)) ≡ (nat_eq at place && is_eq (row_cmp row x))
-bringing_at row x at place = ap is_eq (bringing_cmp_total.antisymm (bringing row at) (bringing x place)) ∙ same_reversed (bringing_cmp (bringing x place) (bringing row at)) ∙ bringing_is x row place at
+bringing_at row x at place =
+    ap is_eq (bringing_cmp_total.antisymm (bringing row at) (bringing x place)) ∙ same_reversed (bringing_cmp (bringing x place) (bringing row at))
+    ∙ bringing_is x row place at
 
 -- ---- what the search finds
 
@@ -206,11 +219,13 @@ module _ (bs : List Bringing) (row : HostRow) where
         (λ same. absent q (λ place has. sym apart ∙ between row q k place same low (comes_first q place same has)))
 
     -- the first has the target: it is the one that stands
-    pub first_stands : list_any (is_at (bringing_cmp k)) bs ≡ true → contends k.row row ≡ true → (q : HostRow) → (contends q row && stands rows q) ≡ is_eq (row_cmp k.row q)
+    pub first_stands : list_any (is_at (bringing_cmp k)) bs ≡ true → contends k.row row ≡ true → (q : HostRow)
+        → (contends q row && stands rows q) ≡ is_eq (row_cmp k.row q)
     first_stands has here q =
         split (is_eq (row_cmp k.row q))
         (λ same. subst (λ (r : HostRow). (contends r row && stands rows r) ≡ is_eq (row_cmp k.row r)) (row_is k.row q same)
-        (on_both _ _ here (on_both _ _ (ap not (passed_by_none (λ other. outranks other k.row) rows (λ o among. not_outranked o among))) (row_brought bs k.row k.place has))
+        (on_both _ _ here
+        (on_both _ _ (ap not (passed_by_none (λ other. outranks other k.row) rows (λ o among. not_outranked o among))) (row_brought bs k.row k.place has))
         ∙ sym (row_itself k.row)))
         (λ apart. off_where (contends q row) (stands rows q) (λ same. later q same apart) ∙ sym apart)
       where
@@ -233,7 +248,8 @@ module _ (bs : List Bringing) (row : HostRow) where
             let one : contends k.row o ≡ true = contending k.row o (one_target k.row row here ∙ sym (one_target o row same)) in
             let below : is_lt (before_cmp k.row o) ≡ true =
             must_be_below (before_cmp k.row o) (no_later k o by.place one (comes_first o by.place same by.has))
-            (sym (tied_then (nat_cmp (row_iface k.row) (row_iface o)) (row_cmp k.row o)) ∙ off_last (is_eq (nat_cmp (row_iface k.row) (row_iface o))) _ apart) in
+            (sym (tied_then (nat_cmp (row_iface k.row) (row_iface o)) (row_cmp k.row o)) ∙ off_last (is_eq (nat_cmp (row_iface k.row) (row_iface o))) _ apart)
+            in
             let above : outranks k.row o ≡ true = outranks_is k.row o ∙ on_both _ _ one (goes_before_is k.row o ∙ below) in
             ap (λ (b : Bool). not b && has_row rows o) (passed_among (λ other. outranks other o) rows k.row (row_brought bs k.row k.place has) above))
             (λ no. off_last (is_kept rows o) (has_row rows o) no)

@@ -15,7 +15,8 @@ or_none true = refl
 or_none false = refl
 
 -- one more of a list may pass
-any_more : (p : HostRow → Bool) (rows : List HostRow) (i : ℕ) (d : HostRow) → i < length rows → list_any p (take (i + 1) rows) ≡ (list_any p (take i rows) || p (get_or rows i d))
+any_more : (p : HostRow → Bool) (rows : List HostRow) (i : ℕ) (d : HostRow) → i < length rows
+    → list_any p (take (i + 1) rows) ≡ (list_any p (take i rows) || p (get_or rows i d))
 any_more p rows i d lt =
     ap (list_any p) (take_more rows i d lt) ∙ list_any-append p (take i rows) (get_or rows i d ∷ [])
     ∙ ap (λ (b : Bool). list_any p (take i rows) || b) (or_none (p (get_or rows i d)))
@@ -30,7 +31,8 @@ shared false c s = refl
 stands_more : (targets rows : List HostRow) (i : ℕ) (d q : HostRow) → i < length targets
     → stands_for (take (i + 1) targets) rows q ≡ (stands_for (take i targets) rows q || stands_at (get_or targets i d) rows q)
 stands_more targets rows i d q lt =
-    ap (λ (b : Bool). b && stands rows q) (any_more (contends q) targets i d lt) ∙ shared (list_any (contends q) (take i targets)) (contends q (get_or targets i d)) (stands rows q)
+    ap (λ (b : Bool). b && stands rows q) (any_more (contends q) targets i d lt)
+    ∙ shared (list_any (contends q) (take i targets)) (contends q (get_or targets i d)) (stands rows q)
 
 more_again : (w f e : Bool) → ((w || f) || e) ≡ (w || (f || e))
 more_again true f e = refl
@@ -105,7 +107,8 @@ not_here true w = refl
 not_here false w = refl
 
 pub removed_more : (rows : List HostRow) (i : ℕ) (d q : HostRow) (was now new : Bool) → i < length rows
-    → now ≡ (was && not (has_row (take i rows) q)) → new ≡ (not (is_eq (row_cmp q (get_or rows i d))) && now) → new ≡ (was && not (has_row (take (i + 1) rows) q))
+    → now ≡ (was && not (has_row (take i rows) q)) → new ≡ (not (is_eq (row_cmp q (get_or rows i d))) && now)
+    → new ≡ (was && not (has_row (take (i + 1) rows) q))
 removed_more rows i d q was now new lt so_far step = taken_more rows i d q true (is_eq (row_cmp q (get_or rows i d))) was now new lt so_far step refl
 
 pub added_more : (rows : List HostRow) (i : ℕ) (d q : HostRow) (was now new : Bool) → i < length rows
@@ -113,7 +116,8 @@ pub added_more : (rows : List HostRow) (i : ℕ) (d q : HostRow) (was now new : 
 added_more rows i d q was now new lt so_far step = brought_more rows i d q true (is_eq (row_cmp q (get_or rows i d))) was now new lt so_far step refl
 
 pub dropped_more : (rows : List HostRow) (i : ℕ) (d q : HostRow) (was now new : Bool) → i < length rows
-    → now ≡ (was && not (has_row (take i rows) q)) → new ≡ cond (is_eq (row_cmp (get_or rows i d) q)) false now → new ≡ (was && not (has_row (take (i + 1) rows) q))
+    → now ≡ (was && not (has_row (take i rows) q)) → new ≡ cond (is_eq (row_cmp (get_or rows i d) q)) false now
+    → new ≡ (was && not (has_row (take (i + 1) rows) q))
 dropped_more rows i d q was now new lt so_far step =
     removed_more rows i d q was now new lt so_far
     (step ∙ not_here (is_eq (row_cmp (get_or rows i d) q)) now ∙ ap (λ (b : Bool). not b && now) (equal_turned (get_or rows i d) q))

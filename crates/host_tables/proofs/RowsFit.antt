@@ -17,7 +17,8 @@ filter_fit : (p : HostRow → Bool) (rows : List HostRow) → AllByRecursion IsR
 filter_fit p [] fit = tt
 filter_fit p (row ∷ rows) fit = kept_fit (p row) row (filter p rows) fit.0 (filter_fit p rows fit.1)
 
-placed_fit : (r : Ordering) (row x : HostRow) (xs more : List HostRow) → IsRow row → IsRow x → AllByRecursion IsRow xs → AllByRecursion IsRow more → AllByRecursion IsRow (match_ordering r (row ∷ x ∷ xs) (x ∷ xs) (x ∷ more))
+placed_fit : (r : Ordering) (row x : HostRow) (xs more : List HostRow) → IsRow row → IsRow x → AllByRecursion IsRow xs → AllByRecursion IsRow more
+    → AllByRecursion IsRow (match_ordering r (row ∷ x ∷ xs) (x ∷ xs) (x ∷ more))
 placed_fit Less row x xs more fit first rest longer = (fit, (first, rest))
 placed_fit Equal row x xs more fit first rest longer = (first, rest)
 placed_fit Greater row x xs more fit first rest longer = (first, longer)

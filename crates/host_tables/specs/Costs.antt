@@ -39,7 +39,8 @@ most_steps rows d = 8 * (rows + 1) * (d + 1)
 abbrev pub rows_exchanged : (places : List (List HostRow)) → (place : ℕ) → (rows : List HostRow) → ℕ
 rows_exchanged places place rows = length (slice_index_or places place []) + length rows
 
--- no more than d binary digits have the number of rows that all places bring before, and that of those that they bring now
+-- no more than d binary digits have the number of rows that all places bring before, and that of those that they bring
+-- now
 pub record HaveDigits (d : ℕ) (places : List (List HostRow)) (place : ℕ) (rows : List HostRow) : Type 0 where
   pub before : length (all_rows places) < 2 ^ d
   pub now : length (all_rows (slice_set places place rows)) < 2 ^ d

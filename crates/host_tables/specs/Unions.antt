@@ -14,7 +14,8 @@ use Rattle.host_tables.specs.declared.union.Union.{Union}
 
 -- They are those of the places' rows: each place with each of its rows, and in row order the rows that are wanted.
 pub record Unites (places : List (List HostRow)) (union : Union) : Type 0 where
-  pub brought : (row : HostRow) (place : ℕ) → has_bringing union.brought.items row place ≡ has_row (get_or places place []) row
+  pub brought : (row : HostRow) (place : ℕ)
+      → has_bringing union.brought.items row place ≡ has_row (get_or places place []) row
   pub each_once : InBringingOrder union.brought.items
   pub wanted : (row : HostRow) → has_row union.wanted.items row ≡ stands (all_rows places) row
   pub in_order : InRowOrder union.wanted.items
@@ -34,13 +35,17 @@ pub record AreHeads (before after rows heads : List HostRow) : Type 0 where
 -- the place no longer brings these rows
 pub record TakesOut (place : ℕ) (rows : List HostRow) (old new : Union) : Type 0 where
   pub wanted : new.wanted ≡ old.wanted
-  pub brought : (row : HostRow) (at : ℕ) → has_bringing new.brought.items row at ≡ (has_bringing old.brought.items row at && not ((at == place) && has_row rows row))
+  pub brought : (row : HostRow) (at : ℕ)
+      → has_bringing new.brought.items row at
+      ≡ (has_bringing old.brought.items row at && not ((at == place) && has_row rows row))
   pub each_once : InBringingOrder new.brought.items
 
 -- the place brings these rows too
 pub record Brings (place : ℕ) (rows : List HostRow) (old new : Union) : Type 0 where
   pub wanted : new.wanted ≡ old.wanted
-  pub brought : (row : HostRow) (at : ℕ) → has_bringing new.brought.items row at ≡ (has_bringing old.brought.items row at || ((at == place) && has_row rows row))
+  pub brought : (row : HostRow) (at : ℕ)
+      → has_bringing new.brought.items row at
+      ≡ (has_bringing old.brought.items row at || ((at == place) && has_row rows row))
   pub each_once : InBringingOrder new.brought.items
 
 pub record RemovesRows (rows old new : List HostRow) : Type 0 where
@@ -70,7 +75,8 @@ pub record Exchanged (before after : List (List HostRow)) (union : Union) (diff 
   pub unites : Unites after union
   pub differ : Differ before after diff
 
--- Whatever all places bring: where the place brings the rows before, the rows are afterwards those with the rows after in their place.
+-- Whatever all places bring: where the place brings the rows before, the rows are afterwards those with the rows after
+-- in their place.
 abbrev pub Exchanges : (place : ℕ) → (before after : List HostRow) → (old new : Union) → Diff → Type 0
 Exchanges place before after old new diff =
     (places : List (List HostRow)) → place < length places → before ≡ get_or places place [] → Unites places old

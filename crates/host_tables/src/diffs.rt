@@ -1,4 +1,5 @@
-//! Changes of the wanted rows, one after another, as one: a change more costs searches for its own rows, however many came before.
+//! Changes of the wanted rows, one after another, as one: a change more costs searches for its own rows, however many
+//! came before.
 
 ghost use Rattle.std.specs.Prelude.{◌≡◌, not, ◌||◌, ◌&&◌, List, IfOk, OnOk};
 ghost use Rattle.world.specs.declared.rows.HostRow.{HostRow};
@@ -25,7 +26,10 @@ fn put_beyond(
     rows: &[HostRow],
     others: &BTreeSet<HostRow>,
 ) -> Result<(), AllocError>
-    ensures has { OnOk result ((q : HostRow) → has_row set.new.keys q ≡ (has_row set.old.keys q || (not (has_row others.now.keys q) && has_row rows.now q))) }
+    ensures has { OnOk result
+        ((q : HostRow)
+        → has_row set.new.keys q
+        ≡ (has_row set.old.keys q || (not (has_row others.now.keys q) && has_row rows.now q))) }
     ensures in_order { OnOk result (InRowOrder set.old.keys → InRowOrder set.new.keys) }
 {
     for row in rows {
@@ -69,7 +73,9 @@ impl Diffs {
 
     /// One change more. A row that was there before all and is there after them is neither gone nor come.
     pub fn add(&mut self, change: &Diff) -> Result<(), NoMemory>
-        ensures { OnOk result ((before between after : List (List HostRow)) → Sums before between self.old → Differ between after change.now → Sums before after self.new) }
+        ensures { OnOk result
+            ((before between after : List (List HostRow)) → Sums before between self.old
+            → Differ between after change.now → Sums before after self.new) }
     {
         put_beyond(&mut self.gone, &change.gone, &self.come)?;
         take_each(&mut self.come, &change.gone);
@@ -80,7 +86,8 @@ impl Diffs {
 
     /// All of them, as one change.
     pub fn into_diff(self, alloc: Global) -> Result<Diff, NoMemory>
-        ensures { IfOk result (λ diff. (before after : List (List HostRow)) → Sums before after self → Differ before after diff) }
+        ensures { IfOk result
+            (λ diff. (before after : List (List HostRow)) → Sums before after self → Differ before after diff) }
     {
         Ok(Diff {
             gone: rows_of(alloc, &self.gone)?,

@@ -44,12 +44,14 @@ fn add_head<L: Ledger>(
     requires brought { InBringingOrder brought.now }
     requires in_order { InRowOrder heads.old.items }
     requires room { vec_len heads.old < vec_capacity heads.old }
-    ensures has { (q : HostRow) → has_row heads.new.items q ≡ (has_row heads.old.items q || stands_at row (rows_in brought.now) q) }
+    ensures has { (q : HostRow)
+        → has_row heads.new.items q ≡ (has_row heads.old.items q || stands_at row (rows_in brought.now) q) }
     ensures in_order { InRowOrder heads.new.items }
     ensures len { vec_len heads.new ≤ vec_len heads.old + 1 }
     ensures capacity { vec_capacity heads.old ≤ vec_capacity heads.new }
     ensures grows { steps.old ≤ steps.new }
-    ensures steps { (n : ℕ) → length brought.now < 2 ^ n → vec_len heads.old < 2 ^ (n + 1) → steps.new ≤ steps.old + 2 * (n + 1) }
+    ensures steps { (n : ℕ) → length brought.now < 2 ^ n → vec_len heads.old < 2 ^ (n + 1)
+        → steps.new ≤ steps.old + 2 * (n + 1) }
 {
     if let Some(head) = head(brought, row, steps) {
         put_in(heads, 0, head, steps);
@@ -70,7 +72,8 @@ fn add_heads<L: Ledger>(
     ensures len { vec_len heads.new ≤ vec_len heads.old + length rows.now }
     ensures capacity { vec_capacity heads.old ≤ vec_capacity heads.new }
     ensures grows { steps.old ≤ steps.new }
-    ensures steps { (n : ℕ) → length brought.now < 2 ^ n → vec_len heads.old + length rows.now < 2 ^ (n + 1) → steps.new ≤ steps.old + length rows.now * (2 * (n + 1)) }
+    ensures steps { (n : ℕ) → length brought.now < 2 ^ n → vec_len heads.old + length rows.now < 2 ^ (n + 1)
+        → steps.new ≤ steps.old + length rows.now * (2 * (n + 1)) }
 {
     for row in rows {
         add_head(brought, *row, heads, steps);

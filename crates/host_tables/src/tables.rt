@@ -65,8 +65,9 @@ impl Tables {
         Ok(())
     }
 
-    /// Puts these rows in the place of those that this place brings, and answers what that makes of the wanted rows. The steps that
-    /// it takes, of which each is the comparison of two rows, grow with the number of these rows and of those before, and not with all. Where memory runs out all is as it was.
+    /// Puts these rows in the place of those that this place brings, and answers what that makes of the wanted rows.
+    /// The steps that it takes, of which each is the comparison of two rows, grow with the number of these rows and of
+    /// those before, and not with all. Where memory runs out all is as it was.
     pub fn change<L: Ledger>(
         &mut self,
         place: usize,
@@ -78,7 +79,8 @@ impl Tables {
         ensures differ { IfOk result (λ diff. Differ self.old (slice_set self.old place rows) diff) }
         ensures kept { OnErr result (self.new ≡ self.old) }
         ensures grows { steps.old ≤ steps.new }
-        ensures steps { (d : ℕ) → HaveDigits d self.old place rows → steps.new ≤ steps.old + most_steps (rows_exchanged self.old place rows) d }
+        ensures steps { (d : ℕ) → HaveDigits d self.old place rows
+            → steps.new ≤ steps.old + most_steps (rows_exchanged self.old place rows) d }
     {
         let before = self.places[place].as_slice();
         let diff = self
@@ -96,8 +98,9 @@ impl Tables {
         &self.places[place]
     }
 
-    /// The rows that a host is to hold: those that the places bring, each once. Where routes agree in destination, length and
-    /// metric, the interface with the lowest number has its way, and on it the route that row order puts first.
+    /// The rows that a host is to hold: those that the places bring, each once. Where routes agree in destination,
+    /// length and metric, the interface with the lowest number has its way, and on it the route that row order puts
+    /// first.
     pub fn wanted(&self) -> &[HostRow]
         ensures rows { result.now ≡ wanted_of self.now }
         ensures fit { AllByRecursion IsRow result.now }

@@ -135,7 +135,8 @@ impl Union {
         requires room { RoomFor before.now after.now room self.old }
         ensures exchanges { Exchanges place before.now after.now self.old self.new result }
         ensures grows { steps.old ≤ steps.new }
-        ensures steps { (d : ℕ) → AreFew d before.now after.now self.old self.new → steps.new ≤ steps.old + most_steps (length before.now + length after.now) d }
+        ensures steps { (d : ℕ) → AreFew d before.now after.now self.old self.new
+            → steps.new ≤ steps.old + most_steps (length before.now + length after.now) d }
     {
         let Room {
             mut stood,
@@ -169,7 +170,8 @@ impl Union {
         ensures kept { OnErr result (KeepsRows self.old self.new) }
         ensures unspent { OnErr result (steps.new ≡ steps.old) }
         ensures grows { steps.old ≤ steps.new }
-        ensures steps { (d : ℕ) → AreFew d before.now after.now self.old self.new → steps.new ≤ steps.old + most_steps (length before.now + length after.now) d }
+        ensures steps { (d : ℕ) → AreFew d before.now after.now self.old self.new
+            → steps.new ≤ steps.old + most_steps (length before.now + length after.now) d }
     {
         let count = before.len() + after.len();
         let room = Room::new(alloc, count)?;

@@ -48,7 +48,8 @@ pub goes_quiet : (step : IfaceStep) (new : Iface) (asked : Asked) → step ≡ s
 goes_quiet step new asked quiet = rw quiet (goes_silent new new asked refl)
 
 -- a machine that isn't due ticks in silence
-pub not_due : (machine : TimedMachine) (at salt : ℕ) (iface : Iface) → is_due (machine_due machine iface) at ≡ false → machine_ticked machine at salt iface ≡ silent iface
+pub not_due : (machine : TimedMachine) (at salt : ℕ) (iface : Iface) → is_due (machine_due machine iface) at ≡ false
+    → machine_ticked machine at salt iface ≡ silent iface
 not_due machine.Dhcp4 at salt iface h = rw h refl
 not_due machine.LinkLocal at salt iface h = rw h refl
 not_due machine.Dhcp6 at salt iface h = ap (dhcp6_step iface) (tick_waits iface.dhcp6 at salt h)
@@ -134,7 +135,8 @@ fits_after step old new none some same goes fits = subst FitsManaged (sym (ap (�
 -- ---- DHCPv4
 
 -- the news of the reports that tell it
-pub reported : (before after : Iface) (news : List News) → map (λ (report : Report). report.news) (map (λ (n : News). record { before = before; news = n; after = after }) news) ≡ news
+pub reported : (before after : Iface) (news : List News)
+    → map (λ (report : Report). report.news) (map (λ (n : News). record { before = before; news = n; after = after }) news) ≡ news
 reported before after [] = refl
 reported before after (n ∷ news) = ap (λ (ns : List News). n ∷ ns) (reported before after news)
 
@@ -164,7 +166,10 @@ goes_dhcp4 at held old new step c client out before after was is follows = recor
   goes_on = goes_on;
   offers =
       follows.offers
-      ∙ (λ i. before.sends ++ map (spelled old.managed.spec (is.goes_on i).settings.ask) (map Dhcp4 (option_to_list (is.answers i).say) ++ map Arp (option_to_list (is.answers i).arp)));
+      ∙
+      (λ i. before.sends
+      ++ map (spelled old.managed.spec (is.goes_on i).settings.ask)
+      (map Dhcp4 (option_to_list (is.answers i).say) ++ map Arp (option_to_list (is.answers i).arp)));
   tells =
       follows.tells ∙ (λ i. before.news ++ lease_news (is.answers i).news)
       ∙ ap (λ (n : List News). before.news ++ n) (sym (reported was_it is_it (lease_news step.news)));

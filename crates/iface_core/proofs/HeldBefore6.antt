@@ -91,12 +91,15 @@ lapsed_told turn dates c true false =
     gated (SameHeld (tick_row turn dates (record { goes = true; stays = false }) c.state).news c) (holds c.state && true && not (is_at_end turn.at c.state)) _ _
     refl refl
 lapsed_told turn dates c false stays =
-    other_arm (SameHeld (tick_row turn dates (record { goes = false; stays = stays }) c.state).news c) (holds c.state) (not (is_at_end turn.at c.state)) _ _ refl
+    other_arm (SameHeld (tick_row turn dates (record { goes = false; stays = stays }) c.state).news c) (holds c.state)
+    (not (is_at_end turn.at c.state)) _ _ refl
 
 -- a client that begins stands on what it asks for
 begins_told : (turn : Turn6) (stands : Bool) (parting : Parting6) (state : State6) → NotOfHeld (begin_row turn stands parting state)
-begins_told turn true parting Off = gated (λ (step : Step6). NotOfHeld (record step { spends = true })) parting.stays (restarts turn true) (to_waiting turn) refl refl
-begins_told turn false parting Off = gated (λ (step : Step6). NotOfHeld (record step { spends = true })) parting.stays (restarts turn false) (to_waiting turn) refl refl
+begins_told turn true parting Off =
+    gated (λ (step : Step6). NotOfHeld (record step { spends = true })) parting.stays (restarts turn true) (to_waiting turn) refl refl
+begins_told turn false parting Off =
+    gated (λ (step : Step6). NotOfHeld (record step { spends = true })) parting.stays (restarts turn false) (to_waiting turn) refl refl
 begins_told turn stands parting (Waiting due) = refl
 begins_told turn stands parting (Soliciting exchange offer) = refl
 begins_told turn stands parting (Requesting exchange) = refl
@@ -131,7 +134,8 @@ module _ (c : ClientContent) (at salt : ℕ) where
 
   answers_held : (kind : ServerKind6) (d : ClientContent) (message : Content6) → HandsOutHeld d (answered at salt message kind d)
   answers_held Advertise d message =
-      gated (SameHeld (heard_row (turn_of at salt d) (advertise_answer d message) d.state).news d) (is_kept_offer (advertise_answer d message) d.state) _ _ refl refl
+      gated (SameHeld (heard_row (turn_of at salt d) (advertise_answer d message) d.state).news d)
+      (is_kept_offer (advertise_answer d message) d.state) _ _ refl refl
   answers_held Reply d message = refl
 
   pub hears_held : (message : Content6) → HandsOutHeld c (hears_turned at salt message c)

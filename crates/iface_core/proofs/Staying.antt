@@ -61,7 +61,8 @@ restarted_stays at salt iface = record { managed = refl; local = λ h. (step_in 
 unsent_stays : (set at salt : ℕ) (iface : Iface) → Stays iface (unsent_in set at salt iface)
 unsent_stays set at salt iface = gated (Stays iface) (is_in set (index_of iface)) (restarted at salt iface) iface (restarted_stays at salt iface) (itself iface)
 
-both_stays : (iface : Iface) (first : IfaceStep) (next : Iface → IfaceStep) → StepStays iface first → StepStays first.iface (next first.iface) → StepStays iface (then_step first next)
+both_stays : (iface : Iface) (first : IfaceStep) (next : Iface → IfaceStep) → StepStays iface first → StepStays first.iface (next first.iface)
+    → StepStays iface (then_step first next)
 both_stays iface first next one two = in_turn iface first.iface (next first.iface).iface one two
 
 -- ---- link-local
@@ -72,7 +73,8 @@ arm_in local due waits fallback h = (step_in [] local.iface local.state (Arm due
 armed_in : (conf : IfConf) (at : ℕ) (local : LinkLocal) → InState local.state → InState (armed conf at local).state
 armed_in conf at local h =
     gated (λ (l : LinkLocal). InState l.state) (runs_dhcp4 conf) (armed_for_lease conf at local) _
-    (gated (λ (l : LinkLocal). InState l.state) (nat_eq conf.timeout 0) local (ll_armed local (at + SECOND * conf.timeout) ForLease (fallback_of (chooses_local conf))) h
+    (gated (λ (l : LinkLocal). InState l.state) (nat_eq conf.timeout 0) local
+    (ll_armed local (at + SECOND * conf.timeout) ForLease (fallback_of (chooses_local conf))) h
     (arm_in local (at + SECOND * conf.timeout) ForLease (fallback_of (chooses_local conf)) h))
     (gated (λ (l : LinkLocal). InState l.state) (chooses_local conf) (ll_armed local at ForNothing Choose) local (arm_in local at ForNothing Choose h) h)
 
@@ -186,7 +188,8 @@ module _ (own : List Mac) (at salt : ℕ) (bytes : List ℕ) where
   message6_stays None iface = itself iface
   message6_stays (Some heard) iface = dhcp6_stays iface (hears_turned at salt heard.message iface.dhcp6)
 
-  message_stays : (message : Option HeardMessage) (message6 : Option HeardMessage6) (iface : Iface) → StepStays iface (hears_message at salt message message6 iface)
+  message_stays : (message : Option HeardMessage) (message6 : Option HeardMessage6) (iface : Iface)
+      → StepStays iface (hears_message at salt message message6 iface)
   message_stays None message6 iface = message6_stays message6 iface
   message_stays (Some heard) message6 iface =
       dhcp4_stays_from at iface (brought (arrival_at at heard) iface.dhcp4) (heard_step salt (arrival_at at heard) iface.dhcp4)
@@ -197,7 +200,8 @@ module _ (own : List Mac) (at salt : ℕ) (bytes : List ℕ) where
   either_stays None message message6 iface = message_stays message message6 iface
 
   -- of an input that names an interface
-  named_stays : (index : ℕ) (iface : Iface) (step : IfaceStep) → StepStays iface step → StepStays iface (if nat_eq (index_of iface) index then step else silent iface)
+  named_stays : (index : ℕ) (iface : Iface) (step : IfaceStep) → StepStays iface step
+      → StepStays iface (if nat_eq (index_of iface) index then step else silent iface)
   named_stays index iface step stays = gated (StepStays iface) (nat_eq (index_of iface) index) step (silent iface) stays (itself iface)
 
   taken_stays : (event : Event) (iface : Iface) → StepStays iface (taken own at salt event bytes iface)

@@ -32,7 +32,14 @@ bytes_of given.Stop = []
 bytes_of given.Quiet = []
 
 abbrev pub turn_of : Turn → run.Turn
-turn_of turn = record { at = turn.at; salt = turn.salt; unsent = turn.unsent; event = event_of turn.input; bytes = bytes_of turn.input }
+turn_of turn =
+    record {
+      at = turn.at;
+      salt = turn.salt;
+      unsent = turn.unsent;
+      event = event_of turn.input;
+      bytes = bytes_of turn.input;
+    }
 
 -- what an interface makes of the server's message of a frame
 abbrev pub hears_server : (at salt : ℕ) → List ℕ → Iface → IfaceStep

@@ -79,7 +79,8 @@ pub record Tells (news : List News) (told : List jobs.Told) (before after : Aske
   pub tells : after.news ≡ before.news ++ news
   pub hooks : after.told ≡ before.told ++ told
 
--- The interface goes on as in this step, and the step's frames, its news and what hooks are told come after those before.
+-- The interface goes on as in this step, and the step's frames, its news and what hooks are told come after those
+-- before.
 pub record Goes (step : IfaceStep) (iface : Iface) (before after : Asked) : Type 0 where
   pub goes_on : iface ≡ step.iface
   pub offers : after.sends ≡ before.sends ++ sends_of step
@@ -120,7 +121,8 @@ local_told (local.Lost addr) iface = told_of (LocalLost addr) iface iface
 
 -- What has become of a lease, with the lease that was held before where the news is of it, is told of the interface.
 abbrev pub lease_told : News4 → (old : Option LeaseContent) → Iface → List jobs.Told
-lease_told news old iface = own_if (reason4 news) iface.managed iface.up (leased4 old) (leased4 (dhcp4.held_of iface.dhcp4))
+lease_told news old iface =
+    own_if (reason4 news) iface.managed iface.up (leased4 old) (leased4 (dhcp4.held_of iface.dhcp4))
 
 abbrev pub lease6_told : News6 → (old : Option Lease6Content) → Iface → List jobs.Told
 lease6_told news old iface =
@@ -133,7 +135,9 @@ lease6_told news old iface =
 pub record Follows (at : ℕ) (held : Bool) (out : OutContent) (old new : Iface) (before after : Asked) : Type 0 where
   pub goes_on : new ≡ record old { local = followed old.managed.conf at held out.news old.local }
   pub offers : after.sends
-      ≡ before.sends ++ map (spelled (spec_in old) (ask_in old)) (map Dhcp4 (option_to_list out.say) ++ map Arp (option_to_list out.arp))
+      ≡ before.sends
+      ++ map (spelled (spec_in old) (ask_in old))
+      (map Dhcp4 (option_to_list out.say) ++ map Arp (option_to_list out.arp))
   pub tells : after.news ≡ before.news ++ lease_news out.news
   pub hooks : after.told ≡ before.told ++ lease_told out.news out.old new
 

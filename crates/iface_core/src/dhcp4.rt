@@ -54,7 +54,8 @@ fn hardware_identifier(alloc: Global, mac: Mac) -> Result<Vec<u8>, AllocError>
 
 /// The identifier that is the DUID of the host, with the interface's index as IAID (RFC 4361, section 6.1).
 fn duid_identifier(alloc: Global, index: IfIndex, duid: &Duid) -> Result<Vec<u8>, AllocError>
-    ensures { IfOk result (λ identifier. identifier.items ≡ BY_DUID ∷ (to_be_bytes w32 index.number ++ duid.now.bytes.items)) }
+    ensures { IfOk result
+        (λ identifier. identifier.items ≡ BY_DUID ∷ (to_be_bytes w32 index.number ++ duid.now.bytes.items)) }
 {
     let mut identifier = Vec::new(alloc);
     identifier.push(BY_DUID)?;
@@ -115,7 +116,9 @@ pub fn client_of(
     requires managed { FitsManaged managed.now }
     requires duid { IsDuid duid.now.bytes.items }
     requires kept { IfSome (option_map lease_content kept) FitsLease }
-    ensures { IfOk result (λ client. client ≡ client_made (settings_of duid.now.bytes.items managed.now) (option_map lease_content kept)) }
+    ensures { IfOk result
+        (λ client. client
+        ≡ client_made (settings_of duid.now.bytes.items managed.now) (option_map lease_content kept)) }
 {
     let set = settings_of(alloc, managed, duid)?;
     Ok(client4_new(alloc, set, kept))
@@ -128,10 +131,12 @@ pub fn holds_lease(client: &Client4) -> bool
     held4(client).is_some()
 }
 
-/// Link-local after the client's news: a lease that is bound turns it off, and where one that was held has ended, it is armed.
+/// Link-local after the client's news: a lease that is bound turns it off, and where one that was held has ended, it is
+/// armed.
 fn follow_local(iface: &mut Iface, held: bool, news: News4, at: u64)
     requires { IsMoment at }
-    ensures { iface.new ≡ record iface.old { local = run.followed iface.old.managed.conf at held news iface.old.local } }
+    ensures { iface.new
+        ≡ record iface.old { local = run.followed iface.old.managed.conf at held news iface.old.local } }
 {
     match news {
         News4::Bound | News4::Reboot => drop_local(iface),
@@ -154,7 +159,8 @@ fn follow(
 ) -> Result<(), NoMemory>
     requires at { IsMoment at }
     requires fits { FitsManaged iface.old.managed }
-    ensures { OnOk result (Follows at held (out_content out.now) iface.old iface.new (asked_in outs.old) (asked_in outs.new)) }
+    ensures { OnOk result
+        (Follows at held (out_content out.now) iface.old iface.new (asked_in outs.old) (asked_in outs.new)) }
 {
     follow_local(iface, held, out.news, at);
     outs.say_dhcp4(iface, out.say)?;
@@ -193,7 +199,8 @@ pub fn begin_dhcp4(iface: &mut Iface, at: u64, salt: u64, outs: &mut Outs) -> Re
 pub fn rebind_dhcp4(iface: &mut Iface, at: u64, salt: u64, outs: &mut Outs) -> Result<(), NoMemory>
     requires at { IsMoment at }
     requires fits { FitsManaged iface.old.managed }
-    ensures { OnOk result (Goes (run.rebind_dhcp4 at salt iface.old) iface.new (asked_in outs.old) (asked_in outs.new)) }
+    ensures { OnOk result
+        (Goes (run.rebind_dhcp4 at salt iface.old) iface.new (asked_in outs.old) (asked_in outs.new)) }
 {
     if !runs_dhcp4(&iface.managed.conf) {
         return Ok(());
@@ -226,7 +233,8 @@ pub fn stop_dhcp4(
 ) -> Result<(), NoMemory>
     requires at { IsMoment at }
     requires fits { FitsManaged iface.old.managed }
-    ensures { OnOk result (Goes (run.stop_dhcp4 tell at salt iface.old) iface.new (asked_in outs.old) (asked_in outs.new)) }
+    ensures { OnOk result
+        (Goes (run.stop_dhcp4 tell at salt iface.old) iface.new (asked_in outs.old) (asked_in outs.new)) }
 {
     let held = holds_lease(&iface.dhcp4);
     let out = release4(&mut iface.dhcp4, tell, at, salt)?;
@@ -244,7 +252,8 @@ pub fn hear_packet(
 ) -> Result<(), NoMemory>
     requires at { IsMoment at }
     requires fits { FitsManaged iface.old.managed }
-    ensures { OnOk result (Goes (run.dhcp4_packet own.now at salt arp.now iface.old) iface.new (asked_in outs.old) (asked_in outs.new)) }
+    ensures { OnOk result
+        (Goes (run.dhcp4_packet own.now at salt arp.now iface.old) iface.new (asked_in outs.old) (asked_in outs.new)) }
 {
     let held = holds_lease(&iface.dhcp4);
     let out = heard_arp4(&mut iface.dhcp4, arp, at, salt, own)?;
@@ -261,7 +270,9 @@ pub fn hear_message(
 ) -> Result<(), NoMemory>
     requires at { IsMoment at }
     requires fits { FitsManaged iface.old.managed }
-    ensures { OnOk result (Goes (run.dhcp4_takes at salt (run.arrival_at at (heard_shown heard.now)) iface.old) iface.new (asked_in outs.old) (asked_in outs.new)) }
+    ensures { OnOk result
+        (Goes (run.dhcp4_takes at salt (run.arrival_at at (heard_shown heard.now)) iface.old) iface.new
+        (asked_in outs.old) (asked_in outs.new)) }
 {
     let held = holds_lease(&iface.dhcp4);
     let out = heard4(&mut iface.dhcp4, &heard.message, heard.source, at, salt)?;

@@ -72,7 +72,8 @@ pub fn client6_of(
 ) -> Result<Client6, AllocError>
     requires managed { FitsManaged managed.now }
     requires kept { IfSome (option_map lease6_content kept) FitsLease6 }
-    ensures { IfOk result (λ client. client ≡ client_made (settings6_of duid.bytes.items managed.now) (option_map lease6_content kept)) }
+    ensures { IfOk result
+        (λ client. client ≡ client_made (settings6_of duid.bytes.items managed.now) (option_map lease6_content kept)) }
 {
     let set = settings6_of(alloc, managed, duid)?;
     Ok(client6_new(alloc, set, kept))
@@ -115,7 +116,8 @@ pub fn begin_dhcp6(iface: &mut Iface, at: u64, salt: u64, outs: &mut Outs) -> Re
 pub fn rebind_dhcp6(iface: &mut Iface, at: u64, salt: u64, outs: &mut Outs) -> Result<(), NoMemory>
     requires at { IsMoment at }
     requires fits { FitsManaged iface.old.managed }
-    ensures { OnOk result (Goes (run.rebind_dhcp6 at salt iface.old) iface.new (asked_in outs.old) (asked_in outs.new)) }
+    ensures { OnOk result
+        (Goes (run.rebind_dhcp6 at salt iface.old) iface.new (asked_in outs.old) (asked_in outs.new)) }
 {
     if !runs_dhcp6(&iface.managed.conf) {
         return Ok(());
@@ -154,7 +156,8 @@ pub fn stop_dhcp6(
 ) -> Result<(), NoMemory>
     requires at { IsMoment at }
     requires fits { FitsManaged iface.old.managed }
-    ensures { OnOk result (Goes (run.stop_dhcp6 tell at salt iface.old) iface.new (asked_in outs.old) (asked_in outs.new)) }
+    ensures { OnOk result
+        (Goes (run.stop_dhcp6 tell at salt iface.old) iface.new (asked_in outs.old) (asked_in outs.new)) }
 {
     let out = release6(&mut iface.dhcp6, tell6_of(tell), at, salt)?;
     follow(iface, &out, outs)
@@ -170,7 +173,9 @@ pub fn hear_message6(
 ) -> Result<(), NoMemory>
     requires at { IsMoment at }
     requires fits { FitsManaged iface.old.managed }
-    ensures { OnOk result (Goes (run.dhcp6_takes at salt (heard_shown heard.now) iface.old) iface.new (asked_in outs.old) (asked_in outs.new)) }
+    ensures { OnOk result
+        (Goes (run.dhcp6_takes at salt (heard_shown heard.now) iface.old) iface.new (asked_in outs.old)
+        (asked_in outs.new)) }
 {
     let out = heard6(&mut iface.dhcp6, &heard.message, at, salt)?;
     follow(iface, &out, outs)
@@ -186,7 +191,8 @@ pub fn contest(
 ) -> Result<(), NoMemory>
     requires at { IsMoment at }
     requires fits { FitsManaged iface.old.managed }
-    ensures { OnOk result (Goes (run.contested at salt addr iface.old) iface.new (asked_in outs.old) (asked_in outs.new)) }
+    ensures { OnOk result
+        (Goes (run.contested at salt addr iface.old) iface.new (asked_in outs.old) (asked_in outs.new)) }
 {
     let out = duplicate6(&mut iface.dhcp6, addr, at, salt)?;
     follow(iface, &out, outs)

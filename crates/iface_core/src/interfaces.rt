@@ -52,7 +52,9 @@ pub fn iface_open(
 ) -> Result<Iface, NoMemory>
     requires fits { FitsBeginning (beginning_of beginning) }
     requires at { IsMoment begin.at }
-    ensures { IfOk result (λ iface. Goes (run.opened begin.up begin.at begin.salt (beginning_of beginning)) iface (asked_in outs.old) (asked_in outs.new)) }
+    ensures { IfOk result
+        (λ iface. Goes (run.opened begin.up begin.at begin.salt (beginning_of beginning)) iface (asked_in outs.old)
+        (asked_in outs.new)) }
 {
     let index = beginning.managed.spec.index;
     let mut iface = rest(alloc, beginning)?;
@@ -65,7 +67,9 @@ pub fn iface_open(
 fn carry_at_opening(iface: &mut Iface, begin: Begin, outs: &mut Outs) -> Result<(), NoMemory>
     requires at { IsMoment begin.at }
     requires fits { FitsManaged iface.old.managed }
-    ensures { OnOk result (Goes (run.carrier_at_opening (is_up begin.up (index_of iface.old)) begin.at begin.salt iface.old) iface.new (asked_in outs.old) (asked_in outs.new)) }
+    ensures { OnOk result
+        (Goes (run.carrier_at_opening (is_up begin.up (index_of iface.old)) begin.at begin.salt iface.old) iface.new
+        (asked_in outs.old) (asked_in outs.new)) }
 {
     if contains(begin.up, iface.managed.spec.index) {
         gain_carrier(iface, begin.at, begin.salt, outs)
@@ -113,7 +117,8 @@ fn begin(iface: &mut Iface, at: u64, salt: u64, outs: &mut Outs) -> Result<(), N
 fn drop_machines(iface: &mut Iface, at: u64, salt: u64, outs: &mut Outs) -> Result<(), NoMemory>
     requires at { IsMoment at }
     requires fits { FitsManaged iface.old.managed }
-    ensures { OnOk result (Goes (run.machines_drop at salt iface.old) iface.new (asked_in outs.old) (asked_in outs.new)) }
+    ensures { OnOk result
+        (Goes (run.machines_drop at salt iface.old) iface.new (asked_in outs.old) (asked_in outs.new)) }
 {
     drop_dhcp4(iface, at, salt, outs)?;
     drop_local(iface);
@@ -130,7 +135,8 @@ fn stop_machines(
 ) -> Result<(), NoMemory>
     requires at { IsMoment at }
     requires fits { FitsManaged iface.old.managed }
-    ensures { OnOk result (Goes (run.machines_stop tell at salt iface.old) iface.new (asked_in outs.old) (asked_in outs.new)) }
+    ensures { OnOk result
+        (Goes (run.machines_stop tell at salt iface.old) iface.new (asked_in outs.old) (asked_in outs.new)) }
 {
     stop_dhcp4(iface, tell, at, salt, outs)?;
     drop_local(iface);
@@ -140,7 +146,8 @@ fn stop_machines(
 fn gain_carrier(iface: &mut Iface, at: u64, salt: u64, outs: &mut Outs) -> Result<(), NoMemory>
     requires at { IsMoment at }
     requires fits { FitsManaged iface.old.managed }
-    ensures { OnOk result (Goes (run.carrier_comes at salt iface.old) iface.new (asked_in outs.old) (asked_in outs.new)) }
+    ensures { OnOk result
+        (Goes (run.carrier_comes at salt iface.old) iface.new (asked_in outs.old) (asked_in outs.new)) }
 {
     outs.tell_carrier_came(&iface.managed)?;
     iface.up = true;
@@ -150,7 +157,8 @@ fn gain_carrier(iface: &mut Iface, at: u64, salt: u64, outs: &mut Outs) -> Resul
 fn lose_carrier(iface: &mut Iface, at: u64, salt: u64, outs: &mut Outs) -> Result<(), NoMemory>
     requires at { IsMoment at }
     requires fits { FitsManaged iface.old.managed }
-    ensures { OnOk result (Goes (run.carrier_goes at salt iface.old) iface.new (asked_in outs.old) (asked_in outs.new)) }
+    ensures { OnOk result
+        (Goes (run.carrier_goes at salt iface.old) iface.new (asked_in outs.old) (asked_in outs.new)) }
 {
     outs.tell_carrier_went(&iface.managed)?;
     iface.up = false;
@@ -190,7 +198,8 @@ pub fn release(iface: &mut Iface, at: u64, salt: u64, outs: &mut Outs) -> Result
 fn rebind_machines(iface: &mut Iface, at: u64, salt: u64, outs: &mut Outs) -> Result<(), NoMemory>
     requires at { IsMoment at }
     requires fits { FitsManaged iface.old.managed }
-    ensures { OnOk result (Goes (run.machines_rebind at salt iface.old) iface.new (asked_in outs.old) (asked_in outs.new)) }
+    ensures { OnOk result
+        (Goes (run.machines_rebind at salt iface.old) iface.new (asked_in outs.old) (asked_in outs.new)) }
 {
     rebind_dhcp4(iface, at, salt, outs)?;
     arm_unless_held(iface, at);

@@ -1,4 +1,5 @@
-//! One managed interface in a life: its carrier, its machines, what a turn makes of them, and what hooks are told of it.
+//! One managed interface in a life: its carrier, its machines, what a turn makes of them, and what hooks are told of
+//! it.
 //!
 //! `iface_open` at the start of a life, then `iface_turn` in each turn. Moments are in milliseconds since 1970.
 #![tactic(auto)]

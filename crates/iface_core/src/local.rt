@@ -112,7 +112,8 @@ pub fn hear_local(
 ) -> Result<(), NoMemory>
     requires at { IsMoment at }
     requires fits { FitsManaged iface.old.managed }
-    ensures { OnOk result (Goes (run.local_hears own.now at salt arp.now iface.old) iface.new (asked_in outs.old) (asked_in outs.new)) }
+    ensures { OnOk result
+        (Goes (run.local_hears own.now at salt arp.now iface.old) iface.new (asked_in outs.old) (asked_in outs.new)) }
 {
     let out = ll_heard(&mut iface.local, arp, at, salt, own);
     outs.say_arp(iface, out.arp)?;

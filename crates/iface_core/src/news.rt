@@ -71,7 +71,9 @@ impl Outs {
     /// Tells that an interface was opened, which has carrier or none.
     pub fn tell_opened(&mut self, managed: &Managed, up: bool) -> Result<(), NoMemory>
         requires { FitsManaged managed.now }
-        ensures { OnOk result (Tells (News.Opened ∷ []) (own Reason.Preinit managed.now up Nothing Nothing) (asked_in self.old) (asked_in self.new)) }
+        ensures { OnOk result
+            (Tells (News.Opened ∷ []) (own Reason.Preinit managed.now up Nothing Nothing) (asked_in self.old)
+            (asked_in self.new)) }
     {
         self.is_new(News::Opened)?;
         push_event(
@@ -87,7 +89,8 @@ impl Outs {
     /// Tells that the carrier came, and a static address with it.
     pub fn tell_carrier_came(&mut self, managed: &Managed) -> Result<(), NoMemory>
         requires { FitsManaged managed.now }
-        ensures { OnOk result (Tells (News.CarrierCame ∷ []) (carrier_told managed.now) (asked_in self.old) (asked_in self.new)) }
+        ensures { OnOk result
+            (Tells (News.CarrierCame ∷ []) (carrier_told managed.now) (asked_in self.old) (asked_in self.new)) }
     {
         self.is_new(News::CarrierCame)?;
         push_event(
@@ -104,7 +107,9 @@ impl Outs {
     /// Tells that the carrier went.
     pub fn tell_carrier_went(&mut self, managed: &Managed) -> Result<(), NoMemory>
         requires { FitsManaged managed.now }
-        ensures { OnOk result (Tells (News.CarrierWent ∷ []) (own Reason.NoCarrier managed.now false Nothing Nothing) (asked_in self.old) (asked_in self.new)) }
+        ensures { OnOk result
+            (Tells (News.CarrierWent ∷ []) (own Reason.NoCarrier managed.now false Nothing Nothing) (asked_in self.old)
+            (asked_in self.new)) }
     {
         self.is_new(News::CarrierWent)?;
         push_event(
@@ -127,7 +132,9 @@ impl Outs {
     /// Tells that nothing is in force on an interface any more.
     pub fn tell_stopped(&mut self, iface: &Iface) -> Result<(), NoMemory>
         requires { FitsManaged iface.now.managed }
-        ensures { OnOk result (Tells (News.Stopped ∷ []) (told_of News.Stopped iface.now iface.now) (asked_in self.old) (asked_in self.new)) }
+        ensures { OnOk result
+            (Tells (News.Stopped ∷ []) (told_of News.Stopped iface.now iface.now) (asked_in self.old)
+            (asked_in self.new)) }
     {
         self.is_new(News::Stopped)?;
         push_event(
@@ -148,7 +155,10 @@ impl Outs {
         old: Option<&Lease4>,
     ) -> Result<(), NoMemory>
         requires { FitsManaged iface.now.managed }
-        ensures { OnOk result (Tells (lease_news news) (lease_told news (option_map (λ lease. lease_content lease.now) old.entry) iface.now) (asked_in self.old) (asked_in self.new)) }
+        ensures { OnOk result
+            (Tells (lease_news news)
+            (lease_told news (option_map (λ lease. lease_content lease.now) old.entry) iface.now)
+            (asked_in self.old) (asked_in self.new)) }
     {
         self.is_new4(news)?;
         push_event_if(
@@ -169,7 +179,10 @@ impl Outs {
         old: Option<&Lease6>,
     ) -> Result<(), NoMemory>
         requires { FitsManaged iface.now.managed }
-        ensures { OnOk result (Tells (lease6_news news) (lease6_told news (option_map (λ lease. lease6_content lease.now) old.entry) iface.now) (asked_in self.old) (asked_in self.new)) }
+        ensures { OnOk result
+            (Tells (lease6_news news)
+            (lease6_told news (option_map (λ lease. lease6_content lease.now) old.entry) iface.now)
+            (asked_in self.old) (asked_in self.new)) }
     {
         self.is_new6(news)?;
         let lease = held6(&iface.dhcp6);
@@ -192,7 +205,8 @@ impl Outs {
     /// Tells what has become of a link-local address.
     pub fn tell_local(&mut self, iface: &Iface, news: LlNews) -> Result<(), NoMemory>
         requires { FitsManaged iface.now.managed }
-        ensures { OnOk result (Tells (local_news news) (local_told news iface.now) (asked_in self.old) (asked_in self.new)) }
+        ensures { OnOk result
+            (Tells (local_news news) (local_told news iface.now) (asked_in self.old) (asked_in self.new)) }
     {
         match news {
             LlNews::Nothing => Ok(()),
@@ -238,7 +252,11 @@ impl Outs {
         held_now: Held<'_>,
     ) -> Result<(), NoMemory>
         requires { FitsManaged iface.now.managed }
-        ensures { OnOk result (Tells (news ∷ []) (own reason iface.now.managed iface.now.up (held_content held_before.entry) (held_content held_now.entry)) (asked_in self.old) (asked_in self.new)) }
+        ensures { OnOk result
+            (Tells (news ∷ [])
+            (own reason iface.now.managed iface.now.up (held_content held_before.entry)
+            (held_content held_now.entry))
+            (asked_in self.old) (asked_in self.new)) }
     {
         self.is_new(news)?;
         push_event(

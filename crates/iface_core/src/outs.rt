@@ -57,7 +57,8 @@ impl Outs {
 
     /// Offers a frame of the interface.
     fn offer(&mut self, iface: &Iface, bytes: Vec<u8>) -> Result<(), NoMemory>
-        ensures { OnOk result (Offers (framed (spec_in iface.now) bytes.items ∷ []) (asked_in self.old) (asked_in self.new)) }
+        ensures { OnOk result
+            (Offers (framed (spec_in iface.now) bytes.items ∷ []) (asked_in self.old) (asked_in self.new)) }
     {
         self.sends.push(Sending {
             iface: iface.managed.spec.index,
@@ -68,7 +69,9 @@ impl Outs {
 
     /// Offers the frame of a DHCPv4 message, where there is one.
     pub fn say_dhcp4(&mut self, iface: &Iface, message: Option<Say4>) -> Result<(), NoMemory>
-        ensures { OnOk result (Offers (map (spelled (spec_in iface.now) (ask_in iface.now)) (map Dhcp4 (option_to_list message))) (asked_in self.old) (asked_in self.new)) }
+        ensures { OnOk result
+            (Offers (map (spelled (spec_in iface.now) (ask_in iface.now)) (map Dhcp4 (option_to_list message)))
+            (asked_in self.old) (asked_in self.new)) }
     {
         let Some(message) = message else {
             return Ok(());
@@ -79,7 +82,9 @@ impl Outs {
 
     /// Offers the frame of an ARP message, where there is one.
     pub fn say_arp(&mut self, iface: &Iface, message: Option<ArpSay>) -> Result<(), NoMemory>
-        ensures { OnOk result (Offers (map (spelled (spec_in iface.now) (ask_in iface.now)) (map Arp (option_to_list message))) (asked_in self.old) (asked_in self.new)) }
+        ensures { OnOk result
+            (Offers (map (spelled (spec_in iface.now) (ask_in iface.now)) (map Arp (option_to_list message)))
+            (asked_in self.old) (asked_in self.new)) }
     {
         let Some(message) = message else {
             return Ok(());
@@ -90,7 +95,11 @@ impl Outs {
 
     /// Offers the frame of a DHCPv6 message, where there is one.
     pub fn say_dhcp6(&mut self, iface: &Iface, message: Option<&Said6>) -> Result<(), NoMemory>
-        ensures { OnOk result (Offers (map (spelled (spec_in iface.now) (ask_in iface.now)) (dhcp6_said iface.now (option_map (λ said. spoken_content said.now) message.entry))) (asked_in self.old) (asked_in self.new)) }
+        ensures { OnOk result
+            (Offers
+            (map (spelled (spec_in iface.now) (ask_in iface.now))
+            (dhcp6_said iface.now (option_map (λ said. spoken_content said.now) message.entry)))
+            (asked_in self.old) (asked_in self.new)) }
     {
         let Some(message) = message else {
             return Ok(());

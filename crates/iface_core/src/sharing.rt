@@ -51,7 +51,9 @@ pub fn shares_of(
 #[tactic(auto, using(crate::proofs::ShareAddresses::shared_is_subnet))]
 fn push_share(told: &mut Vec<Told>, prefix: Net6, share: &ShareConf) -> Result<(), NoMemory>
     requires { FitsShareConf share.now }
-    ensures { OnOk result (map told_content told.new.items ≡ map told_content told.old.items ++ shared_address share.now (subnet_in prefix share.now.share)) }
+    ensures { OnOk result
+        (map told_content told.new.items
+        ≡ map told_content told.old.items ++ shared_address share.now (subnet_in prefix share.now.share)) }
 {
     match subnet(prefix, &share.share) {
         Some(net) => {
@@ -68,7 +70,10 @@ fn push_share(told: &mut Vec<Told>, prefix: Net6, share: &ShareConf) -> Result<(
 /// Appends the addresses that shares give of a prefix.
 fn push_prefix(told: &mut Vec<Told>, prefix: Net6, shares: &[ShareConf]) -> Result<(), NoMemory>
     requires { AllByRecursion FitsShareConf shares.now }
-    ensures { OnOk result (map told_content told.new.items ≡ map told_content told.old.items ++ flat_map (λ share. shared_address share (subnet_in prefix share.share)) shares.now) }
+    ensures { OnOk result
+        (map told_content told.new.items
+        ≡ map told_content told.old.items
+        ++ flat_map (λ share. shared_address share (subnet_in prefix share.share)) shares.now) }
 {
     for share in shares {
         push_share(told, prefix, share)?;
@@ -84,7 +89,8 @@ fn push_item(
     item: Item6,
 ) -> Result<(), NoMemory>
     requires { AllByRecursion FitsShareConf shares.now }
-    ensures { OnOk result (map told_content told.new.items ≡ map told_content told.old.items ++ item_told shares.now kind item) }
+    ensures { OnOk result
+        (map told_content told.new.items ≡ map told_content told.old.items ++ item_told shares.now kind item) }
 {
     match kind {
         IaKind::Na => Ok(()),
@@ -99,7 +105,9 @@ fn push_items(
     items: &[Item6],
 ) -> Result<(), NoMemory>
     requires { AllByRecursion FitsShareConf shares.now }
-    ensures { OnOk result (map told_content told.new.items ≡ map told_content told.old.items ++ flat_map (item_told shares.now kind) items.now) }
+    ensures { OnOk result
+        (map told_content told.new.items
+        ≡ map told_content told.old.items ++ flat_map (item_told shares.now kind) items.now) }
 {
     for item in items {
         push_item(told, shares, kind, *item)?;
@@ -111,7 +119,8 @@ fn push_items(
 #[tactic(auto, using(crate::proofs::ShareAddresses::own_shares_fit))]
 fn push_ia(told: &mut Vec<Told>, shares: &[ShareConf], ia: &IaLease) -> Result<(), NoMemory>
     requires { AllByRecursion FitsShareConf shares.now }
-    ensures { OnOk result (map told_content told.new.items ≡ map told_content told.old.items ++ ia_told shares.now (ia_content ia.now)) }
+    ensures { OnOk result
+        (map told_content told.new.items ≡ map told_content told.old.items ++ ia_told shares.now (ia_content ia.now)) }
 {
     let own = shares_of(*told.allocator(), ia.iaid, shares)?;
     push_items(told, &own, ia.kind, &ia.items)
@@ -119,7 +128,9 @@ fn push_ia(told: &mut Vec<Told>, shares: &[ShareConf], ia: &IaLease) -> Result<(
 
 fn push_ias(told: &mut Vec<Told>, shares: &[ShareConf], ias: &[IaLease]) -> Result<(), NoMemory>
     requires { AllByRecursion FitsShareConf shares.now }
-    ensures { OnOk result (map told_content told.new.items ≡ map told_content told.old.items ++ flat_map (ia_told shares.now) (ias_content ias.now)) }
+    ensures { OnOk result
+        (map told_content told.new.items
+        ≡ map told_content told.old.items ++ flat_map (ia_told shares.now) (ias_content ias.now)) }
 {
     for ia in ias {
         push_ia(told, shares, ia)?;
@@ -134,7 +145,10 @@ fn push_lease(
     lease: Option<&Lease6>,
 ) -> Result<(), NoMemory>
     requires { AllByRecursion FitsShareConf shares.now }
-    ensures { OnOk result (map told_content told.new.items ≡ map told_content told.old.items ++ shares_told shares.now (option_map (λ lease. lease6_content lease.now) lease.entry)) }
+    ensures { OnOk result
+        (map told_content told.new.items
+        ≡ map told_content told.old.items
+        ++ shares_told shares.now (option_map (λ lease. lease6_content lease.now) lease.entry)) }
 {
     match lease {
         None => Ok(()),
@@ -150,7 +164,10 @@ pub(crate) fn push_shares(
     lease: Option<&Lease6>,
 ) -> Result<(), NoMemory>
     requires { AllByRecursion FitsShareConf shares.now }
-    ensures { OnOk result (map told_content told.new.items ≡ map told_content told.old.items ++ shares_at news shares.now (option_map (λ lease. lease6_content lease.now) lease.entry)) }
+    ensures { OnOk result
+        (map told_content told.new.items
+        ≡ map told_content told.old.items
+        ++ shares_at news shares.now (option_map (λ lease. lease6_content lease.now) lease.entry)) }
 {
     match news {
         News6::Bound | News6::Reboot | News6::Renew | News6::Rebind => {

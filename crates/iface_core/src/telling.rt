@@ -59,7 +59,9 @@ pub fn event_job(
     held_now: Held<'_>,
 ) -> Result<Option<HookJob>, NoMemory>
     requires { IsInterface managed.now.spec.index.number }
-    ensures { IfOk result (λ made. map job_of (option_to_list made) ≡ jobs_of reason managed.now up (held_content held_before.entry) (held_content held_now.entry)) }
+    ensures { IfOk result
+        (λ made. map job_of (option_to_list made)
+        ≡ jobs_of reason managed.now up (held_content held_before.entry) (held_content held_now.entry)) }
 {
     let Some(script) = script_path(&managed.conf.hooks.script) else {
         return Ok(None);
@@ -87,7 +89,10 @@ pub(crate) fn push_event(
     held_now: Held<'_>,
 ) -> Result<(), NoMemory>
     requires { IsInterface managed.now.spec.index.number }
-    ensures { OnOk result (map told_content told.new.items ≡ map told_content told.old.items ++ own reason managed.now up (held_content held_before.entry) (held_content held_now.entry)) }
+    ensures { OnOk result
+        (map told_content told.new.items
+        ≡ map told_content told.old.items
+        ++ own reason managed.now up (held_content held_before.entry) (held_content held_now.entry)) }
 {
     match event_job(
         *told.allocator(),
@@ -115,7 +120,10 @@ pub(crate) fn push_event_if(
     held_now: Held<'_>,
 ) -> Result<(), NoMemory>
     requires { IsInterface managed.now.spec.index.number }
-    ensures { OnOk result (map told_content told.new.items ≡ map told_content told.old.items ++ own_if reason managed.now up (held_content held_before.entry) (held_content held_now.entry)) }
+    ensures { OnOk result
+        (map told_content told.new.items
+        ≡ map told_content told.old.items
+        ++ own_if reason managed.now up (held_content held_before.entry) (held_content held_now.entry)) }
 {
     match reason {
         None => Ok(()),
@@ -126,7 +134,9 @@ pub(crate) fn push_event_if(
 /// Appends the job of the static address that is in force once the carrier came, where there is one.
 pub(crate) fn push_static(told: &mut Vec<Told>, managed: &Managed) -> Result<(), NoMemory>
     requires { IsInterface managed.now.spec.index.number }
-    ensures { OnOk result (map told_content told.new.items ≡ map told_content told.old.items ++ static_told managed.now true managed.now.conf.address) }
+    ensures { OnOk result
+        (map told_content told.new.items
+        ≡ map told_content told.old.items ++ static_told managed.now true managed.now.conf.address) }
 {
     match managed.conf.address {
         None => Ok(()),

@@ -48,7 +48,8 @@ pub fn iface_tick(
     requires at { IsMoment at }
     requires due { is_due (run.machine_due machine iface.old) at ≡ true }
     requires fits { FitsManaged iface.old.managed }
-    ensures { OnOk result (Goes (run.machine_ticked machine at salt iface.old) iface.new (asked_in outs.old) (asked_in outs.new)) }
+    ensures { OnOk result
+        (Goes (run.machine_ticked machine at salt iface.old) iface.new (asked_in outs.old) (asked_in outs.new)) }
 {
     match machine {
         TimedMachine::Dhcp4 => tick_dhcp4(iface, at, salt, outs),
@@ -66,7 +67,9 @@ fn tick_if_due(
 ) -> Result<(), NoMemory>
     requires at { IsMoment turn.now.at }
     requires fits { FitsManaged iface.old.managed }
-    ensures { OnOk result (Goes (run.machine_ticked machine turn.now.at turn.now.salt iface.old) iface.new (asked_in outs.old) (asked_in outs.new)) }
+    ensures { OnOk result
+        (Goes (run.machine_ticked machine turn.now.at turn.now.salt iface.old) iface.new (asked_in outs.old)
+        (asked_in outs.new)) }
 {
     if has_come(machine_due(iface, machine), turn.at) {
         iface_tick(iface, machine, turn.at, turn.salt, outs)
@@ -75,8 +78,8 @@ fn tick_if_due(
     }
 }
 
-/// Handles an input, which may be another interface's. `own` holds the hardware addresses of all interfaces of the host.
-/// After a stop every input counts as quiet.
+/// Handles an input, which may be another interface's. `own` holds the hardware addresses of all interfaces of the
+/// host. After a stop every input counts as quiet.
 pub fn iface_input(
     iface: &mut Iface,
     turn: &Turn<'_>,
@@ -85,7 +88,8 @@ pub fn iface_input(
 ) -> Result<(), NoMemory>
     requires at { IsMoment turn.now.at }
     requires fits { FitsManaged iface.old.managed }
-    ensures { OnOk result (Goes (input_of own.now turn.now iface.old) iface.new (asked_in outs.old) (asked_in outs.new)) }
+    ensures { OnOk result
+        (Goes (input_of own.now turn.now iface.old) iface.new (asked_in outs.old) (asked_in outs.new)) }
 {
     if iface.stopped {
         return Ok(());
@@ -133,7 +137,9 @@ fn hear_arp(
 ) -> Result<(), NoMemory>
     requires at { IsMoment turn.now.at }
     requires fits { FitsManaged iface.old.managed }
-    ensures { OnOk result (Goes (hears_packet own.now turn.now.at turn.now.salt arp.now iface.old) iface.new (asked_in outs.old) (asked_in outs.new)) }
+    ensures { OnOk result
+        (Goes (hears_packet own.now turn.now.at turn.now.salt arp.now iface.old) iface.new (asked_in outs.old)
+        (asked_in outs.new)) }
 {
     hear_packet(iface, arp, turn.at, turn.salt, own, outs)?;
     hear_local(iface, arp, turn.at, turn.salt, own, outs)
@@ -148,7 +154,11 @@ fn hear_dhcp6(
 ) -> Result<(), NoMemory>
     requires at { IsMoment turn.now.at }
     requires fits { FitsManaged iface.old.managed }
-    ensures { OnOk result (Goes (hears_message6 turn.now.at turn.now.salt (heard6_in iface.old.managed.spec.mac bytes.now) iface.old) iface.new (asked_in outs.old) (asked_in outs.new)) }
+    ensures { OnOk result
+        (Goes
+        (hears_message6 turn.now.at turn.now.salt (heard6_in iface.old.managed.spec.mac bytes.now) iface.old)
+        iface.new
+        (asked_in outs.old) (asked_in outs.new)) }
 {
     match heard6_of(iface.managed.spec.mac, bytes) {
         None => Ok(()),
@@ -165,7 +175,9 @@ fn hear_server(
 ) -> Result<(), NoMemory>
     requires at { IsMoment turn.now.at }
     requires fits { FitsManaged iface.old.managed }
-    ensures { OnOk result (Goes (hears_server turn.now.at turn.now.salt bytes.now iface.old) iface.new (asked_in outs.old) (asked_in outs.new)) }
+    ensures { OnOk result
+        (Goes (hears_server turn.now.at turn.now.salt bytes.now iface.old) iface.new (asked_in outs.old)
+        (asked_in outs.new)) }
 {
     match heard4_of(iface.managed.spec.mac, bytes) {
         None => hear_dhcp6(iface, bytes, turn, outs),
@@ -183,7 +195,9 @@ fn hear(
 ) -> Result<(), NoMemory>
     requires at { IsMoment turn.now.at }
     requires fits { FitsManaged iface.old.managed }
-    ensures { OnOk result (Goes (hears own.now turn.now.at turn.now.salt bytes.now iface.old) iface.new (asked_in outs.old) (asked_in outs.new)) }
+    ensures { OnOk result
+        (Goes (hears own.now turn.now.at turn.now.salt bytes.now iface.old) iface.new (asked_in outs.old)
+        (asked_in outs.new)) }
 {
     match arp_in_frame(bytes) {
         Some(arp) => hear_arp(iface, &arp, turn, own, outs),
@@ -217,7 +231,8 @@ fn restart(iface: &mut Iface, turn: &Turn<'_>)
 fn tick_machines(iface: &mut Iface, turn: &Turn<'_>, outs: &mut Outs) -> Result<(), NoMemory>
     requires at { IsMoment turn.now.at }
     requires fits { FitsManaged iface.old.managed }
-    ensures { OnOk result (Goes (run.ticked turn.now.at turn.now.salt iface.old) iface.new (asked_in outs.old) (asked_in outs.new)) }
+    ensures { OnOk result
+        (Goes (run.ticked turn.now.at turn.now.salt iface.old) iface.new (asked_in outs.old) (asked_in outs.new)) }
 {
     tick_if_due(iface, TimedMachine::Dhcp4, turn, outs)?;
     tick_if_due(iface, TimedMachine::LinkLocal, turn, outs)?;
@@ -233,7 +248,8 @@ pub fn iface_turn(
 ) -> Result<(), NoMemory>
     requires at { IsMoment turn.now.at }
     requires fits { FitsManaged iface.old.managed }
-    ensures { OnOk result (Goes (iface_turned own.now (turn_of turn.now) iface.old) iface.new (asked_in outs.old) (asked_in outs.new)) }
+    ensures { OnOk result
+        (Goes (iface_turned own.now (turn_of turn.now) iface.old) iface.new (asked_in outs.old) (asked_in outs.new)) }
 {
     restart(iface, turn);
     tick_machines(iface, turn, outs)?;

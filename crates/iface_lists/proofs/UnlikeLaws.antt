@@ -15,11 +15,15 @@ use Rattle.iface_lists.specs.UnlikeIfaces.{is_unlike, all_unlike}
 
 unlike_sound : (a b : IfSpec) → is_unlike a b ≡ true → Unlike a b
 unlike_sound a b e =
-    let parts = and_parts (not (bytes_eq (name_text a.name) (name_text b.name))) (not (bytes_eq a.mac.bytes b.mac.bytes)) e in
-    ((λ same. apart (name_text a.name) (name_text b.name) parts.0 (ap name_text same)), (λ same. apart a.mac.bytes b.mac.bytes parts.1 (ap (λ (m : Mac). m.bytes) same)))
+    let parts = and_parts (not (bytes_eq (name_text a.name) (name_text b.name))) (not (bytes_eq a.mac.bytes b.mac.bytes)) e in (
+      (λ same. apart (name_text a.name) (name_text b.name) parts.0 (ap name_text same)),
+      (λ same. apart a.mac.bytes b.mac.bytes parts.1 (ap (λ (m : Mac). m.bytes) same)),
+    )
   where
     apart : (xs ys : List ℕ) → not (bytes_eq xs ys) ≡ true → xs ≡ ys → ⊥
-    apart xs ys e same = let t : bytes_eq xs ys ≡ true = (bytes_eq-Decides xs ys).1 same in let f : bytes_eq xs ys ≡ false = not-true _ e in let never : true ≡ false = sym t ∙ f in cc
+    apart xs ys e same =
+        let t : bytes_eq xs ys ≡ true = (bytes_eq-Decides xs ys).1 same in let f : bytes_eq xs ys ≡ false = not-true _ e in let never : true ≡ false = sym t
+        ∙ f in cc
 
 differ_texts : (xs ys : List ℕ) → (xs ≡ ys → ⊥) → not (bytes_eq xs ys) ≡ true
 differ_texts xs ys other =
@@ -44,7 +48,8 @@ pairs_sound (spec ∷ specs) e =
     let parts = and_parts (list_all (is_unlike spec) specs) _ e in
     AllPairs-cons Unlike spec specs (All-from_recursion (Unlike spec) specs (all_others spec specs parts.0)) (pairs_sound specs parts.1)
 
-others_whole : (number : ℕ) (spec : IfSpec) (specs : List IfSpec) → FitsName spec.name → CountsFrom number specs → AllByRecursion (Unlike spec) specs → list_all (is_unlike spec) specs ≡ true
+others_whole : (number : ℕ) (spec : IfSpec) (specs : List IfSpec) → FitsName spec.name → CountsFrom number specs → AllByRecursion (Unlike spec) specs
+    → list_all (is_unlike spec) specs ≡ true
 others_whole number spec [] fit counts unlike = refl
 others_whole number spec (other ∷ specs) fit counts unlike =
     and_from _ _ (unlike_whole spec other fit counts.1 unlike.0) (others_whole (number + 1) spec specs fit counts.3 unlike.1)

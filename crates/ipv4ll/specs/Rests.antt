@@ -7,8 +7,10 @@ use Rattle.ipv4ll.specs.declared.link_local.LlOut.{LlOut}
 use Rattle.ipv4ll.specs.Table.{LlStep, IsStep, IsQuiet, moves, tells, ll_tick, tick_row, due_of}
 
 -- A tick before the due moment changes nothing and says nothing.
-early : (ll : LinkLocal) (at salt : ℕ) → is_due (due_of ll.state) at ≡ false → ll_tick ll at salt ≡ moves ll.iface ll.state (tells Nothing)
-early ll at salt h = ap (λ b. if b then tick_row ll.iface ll.state at salt else moves ll.iface ll.state (tells Nothing)) h
+early : (ll : LinkLocal) (at salt : ℕ) → is_due (due_of ll.state) at ≡ false
+    → ll_tick ll at salt ≡ moves ll.iface ll.state (tells Nothing)
+early ll at salt h =
+    ap (λ b. if b then tick_row ll.iface ll.state at salt else moves ll.iface ll.state (tells Nothing)) h
 
 pub tick_rests : (old new : LinkLocal) (at salt : ℕ) (out : LlOut) → is_due (due_of old.state) at ≡ false
     → IsStep (ll_tick old (moment_of at) salt) new out → (new ≡ old) × IsQuiet out

@@ -165,12 +165,14 @@ begun at salt iface past f =
 dropped : (at salt : ℕ) → Fine (machines_drop at salt)
 dropped at salt iface past f =
     then_well (then_step (drop_dhcp4 at salt iface) local_off) (six.drop_dhcp6 at salt) past
-    (then_well (drop_dhcp4 at salt iface) local_off past (drops4 at salt iface past f) local_ends) (λ g said h. six_well g (carrier_turned carrier6.Down at salt g.dhcp6) said h)
+    (then_well (drop_dhcp4 at salt iface) local_off past (drops4 at salt iface past f) local_ends)
+    (λ g said h. six_well g (carrier_turned carrier6.Down at salt g.dhcp6) said h)
 
 stopped : (tell : Tell) (at salt : ℕ) → Fine (machines_stop tell at salt)
 stopped tell at salt iface past f =
     then_well (then_step (stop_dhcp4 tell at salt iface) local_off) (six.stop_dhcp6 tell at salt) past
-    (then_well (stop_dhcp4 tell at salt iface) local_off past (stops4 tell at salt iface past f) local_ends) (λ g said h. six_well g (release_turned (six.tell6_of tell) at salt g.dhcp6) said h)
+    (then_well (stop_dhcp4 tell at salt iface) local_off past (stops4 tell at salt iface past f) local_ends)
+    (λ g said h. six_well g (release_turned (six.tell6_of tell) at salt g.dhcp6) said h)
 
 rebound_well : (at salt : ℕ) → Fine (machines_rebind at salt)
 rebound_well at salt iface past f =
@@ -217,7 +219,8 @@ input_well own at salt event bytes iface past f = gated (Well past) iface.stoppe
 all_tick : (at salt : ℕ) → Fine (ticked at salt)
 all_tick at salt iface past f =
     then_well (then_step (tick_dhcp4 at salt iface) (tick_local at salt)) (six.tick_dhcp6 at salt) past
-    (then_well (tick_dhcp4 at salt iface) (tick_local at salt) past (ticks at salt iface past f) (local_ticks at salt)) (λ g said h. six_well g (tick_turned at salt g.dhcp6) said h)
+    (then_well (tick_dhcp4 at salt iface) (tick_local at salt) past (ticks at salt iface past f) (local_ticks at salt))
+    (λ g said h. six_well g (tick_turned at salt g.dhcp6) said h)
 
 undone : (set at salt : ℕ) (iface : Iface) (past : List Said4) → Followed iface.dhcp4 past → Followed (unsent_in set at salt iface).dhcp4 past
 undone set at salt iface past f =

@@ -164,7 +164,8 @@ module _ (turn : Turn4) (past : List Said4) (drawn : Drawn turn.last past) where
 
   -- ---- conflict detection
 
-  defends : (xid : ℕ) (terms : Terms4) (state : State4) (says : AcdSays) → LastIs Request xid past → On state past → After past (defended turn xid terms state says)
+  defends : (xid : ℕ) (terms : Terms4) (state : State4) (says : AcdSays) → LastIs Request xid past → On state past
+      → After past (defended turn xid terms state says)
   defends xid terms state Quiet last on = record { drawn = drawn; on = on; well = tt }
   defends xid terms state SayProbe last on = record { drawn = drawn; on = on; well = tt }
   defends xid terms state SayAnnounce last on = record { drawn = drawn; on = on; well = tt }
@@ -181,7 +182,8 @@ module _ (turn : Turn4) (past : List Said4) (drawn : Drawn turn.last past) where
   checks xid terms origin acd stands Conflict last = refuses_address xid terms (standing_news stands) last
   checks xid terms origin acd stands GivenUp last = record { drawn = drawn; on = last; well = tt }
 
-  detecting : (xid : ℕ) (terms : Terms4) (state : State4) (acd : Option Acd) → LastIs Request xid past → ((acd : Acd) → On (with_acd state acd) past) → On state past
+  detecting : (xid : ℕ) (terms : Terms4) (state : State4) (acd : Option Acd) → LastIs Request xid past → ((acd : Acd) → On (with_acd state acd) past)
+      → On state past
       → After past (detects turn xid terms state acd)
   detecting xid terms state None last with_on on = stays state on
   detecting xid terms state (Some acd) last with_on on =
@@ -233,12 +235,14 @@ module _ (turn : Turn4) (past : List Said4) (drawn : Drawn turn.last past) where
   -- ---- what is heard
 
   offering : (xid secs : ℕ) (state : State4) (said : Answer4) → LastIs Discover xid past → On state past → After past (offered turn xid secs state said)
-  offering xid secs state (answer.Offer address server) last on = takes_offer (record { xid = xid; address = address; server = Some server; first = turn.at }) secs Four last
+  offering xid secs state (answer.Offer address server) last on =
+      takes_offer (record { xid = xid; address = address; server = Some server; first = turn.at }) secs Four last
   offering xid secs state answer.Nothing last on = stays state on
   offering xid secs state (answer.Ack terms) last on = stays state on
   offering xid secs state answer.Nak last on = stays state on
 
-  granting : (xid : ℕ) (terms : Terms4) (origin : Origin4) (stands : Option Terms4) → LastIs Request xid past → After past (granted turn xid terms origin stands)
+  granting : (xid : ℕ) (terms : Terms4) (origin : Origin4) (stands : Option Terms4) → LastIs Request xid past
+      → After past (granted turn xid terms origin stands)
   granting xid terms origin stands last =
       gated (After past) turn.site.noarp _ _ (record { drawn = drawn; on = last; well = tt }) (record { drawn = drawn; on = last; well = tt })
 
@@ -261,7 +265,8 @@ module _ (turn : Turn4) (past : List Said4) (drawn : Drawn turn.last past) where
   heard_follows said (Init due) on = stays (Init due) on
   heard_follows said (Selecting xid began secs backoff due) on = offering xid secs (Selecting xid began secs backoff due) said on on
   heard_follows said (Requesting exchange secs backoff due) on = answering exchange.xid Offered None (Requesting exchange secs backoff due) said on on
-  heard_follows said (Rebooting exchange backoff end due stands) on = answering exchange.xid Rebooted stands (Rebooting exchange backoff end due stands) said on on
+  heard_follows said (Rebooting exchange backoff end due stands) on =
+      answering exchange.xid Rebooted stands (Rebooting exchange backoff end due stands) said on on
   heard_follows said (Checking xid terms origin acd stands) on = stays (Checking xid terms origin acd stands) on
   heard_follows said (Waiting due) on = stays (Waiting due) on
   heard_follows said (Bound xid terms acd) on = stays (Bound xid terms acd) on

@@ -86,7 +86,8 @@ abbrev StartsClean : List Said4 → Type 0
 StartsClean [] = Unit {0}
 StartsClean (said ∷ past) = said.kind ≡ Discover → NoRequest said.xid past
 
-after_discover : (said : Said4) (past : List Said4) → said.kind ≡ Discover → MayFollow said past → LastSame said past → StartsClean past → NoRequest said.xid past
+after_discover : (said : Said4) (past : List Said4) → said.kind ≡ Discover → MayFollow said past → LastSame said past → StartsClean past
+    → NoRequest said.xid past
 after_discover said [] k may last clean = tt
 after_discover said (m ∷ past) k may last clean =
     let is : m.kind ≡ Discover = subst (λ (kind : Kind4). MayCome kind m.kind) k (may last) in

@@ -68,7 +68,9 @@ lease_lines ifaces = flat_map lease_line ifaces
 abbrev pub lines_of : (before : Lab) → LabStep → List LabLine
 lines_of before step =
     At step.lab.clock
-    ∷ (client_lines (length before.sent) step.sends ++ (peer_lines (length before.made) step.makes ++ lease_lines step.lab.client.ifaces))
+    ∷
+    (client_lines (length before.sent) step.sends
+    ++ (peer_lines (length before.made) step.makes ++ lease_lines step.lab.client.ifaces))
 
 -- ---- the text
 
@@ -83,7 +85,9 @@ lines_from (event ∷ events) lab = lines_of lab (lab_step event lab) ++ lines_f
 
 -- the lines of a schedule, of whose interfaces these are managed
 abbrev pub lab_lines : List Managed → Schedule → List LabLine
-lab_lines managed schedule = lines_of (no_lab schedule.pool) (lab_opened managed schedule) ++ lines_from schedule.events (lab_opened managed schedule).lab
+lab_lines managed schedule =
+    lines_of (no_lab schedule.pool) (lab_opened managed schedule)
+    ++ lines_from schedule.events (lab_opened managed schedule).lab
 
 unfoldable pub lab_text : List Managed → Schedule → List ℕ
 lab_text managed schedule = lines_text (lab_lines managed schedule)

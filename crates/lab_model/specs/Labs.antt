@@ -1,4 +1,5 @@
--- A lab: clients, each an interface of one client, and one server of DHCPv4 on one clock. What each line of a schedule makes of it.
+-- A lab: clients, each an interface of one client, and one server of DHCPv4 on one clock. What each line of a schedule
+-- makes of it.
 use Rattle.std.specs.Prelude.{ℕ, zero, suc, max, Bool, List, [], ◌∷◌, ◌++◌, map, length, Option, Some, None, option_to_list}
 use Rattle.std.specs.List.{slice_get}
 use Rattle.net_types.specs.declared.interface.IfIndex.{IfIndex}
@@ -82,9 +83,12 @@ raised at lab = max lab.clock (moment_of at)
 
 abbrev pub lab_step : LabEvent → Lab → LabStep
 lab_step (Tick at salt) lab = clients_turned (turn_with (raised at lab) salt wakes.Quiet []) lab
-lab_step (Carrier at salt iface up) lab = clients_turned (turn_with (raised at lab) salt (wakes.Carrier iface.number up) []) lab
-lab_step (Release at salt iface) lab = clients_turned (turn_with (raised at lab) salt (wakes.Release iface.number) []) lab
-lab_step (Give at salt iface frame) lab = clients_turned (turn_given (raised at lab) salt iface (numbered frame lab.made)) lab
+lab_step (Carrier at salt iface up) lab =
+    clients_turned (turn_with (raised at lab) salt (wakes.Carrier iface.number up) []) lab
+lab_step (Release at salt iface) lab =
+    clients_turned (turn_with (raised at lab) salt (wakes.Release iface.number) []) lab
+lab_step (Give at salt iface frame) lab =
+    clients_turned (turn_given (raised at lab) salt iface (numbered frame lab.made)) lab
 lab_step (Hear at frame) lab = peer_heard (raised at lab) (numbered frame lab.sent) lab
 
 -- ---- the start
@@ -98,12 +102,14 @@ beginnings managed = map (beginning (host_duid managed None)) managed
 
 -- before the start
 abbrev pub no_lab : Pool → Lab
-no_lab pool = record { client = record { own = []; ifaces = [] }; peer = peer_open pool; sent = []; made = []; clock = 0 }
+no_lab pool =
+    record { client = record { own = []; ifaces = [] }; peer = peer_open pool; sent = []; made = []; clock = 0 }
 
 -- the start of a schedule's clients, of whose interfaces these are managed
 abbrev pub lab_opened : List Managed → Schedule → LabStep
 lab_opened managed schedule =
-    clients_go (moment_of schedule.begin.at) (opening (beginnings managed) schedule.ifaces schedule.begin) (no_lab schedule.pool)
+    clients_go (moment_of schedule.begin.at) (opening (beginnings managed) schedule.ifaces schedule.begin)
+    (no_lab schedule.pool)
 
 -- ---- all lines
 

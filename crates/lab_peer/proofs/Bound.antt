@@ -115,7 +115,8 @@ free_binding : (addr : Ip4) (mac : Mac) (at : ℕ) (bindings : List Bound4) → 
     → (b : Bound4) → binding_of addr bindings ≡ Some b → is_of mac b ≡ false → is_over b.until at ≡ true
 free_binding addr mac at [] none b is other = absurd cc
 free_binding addr mac at (x ∷ bindings) none b is other =
-    by (λ k. free_binding addr mac at bindings (any_rest (keeps_from addr mac at x) (list_any (keeps_from addr mac at) bindings) none) b k other) (is_at addr x) refl is
+    by (λ k. free_binding addr mac at bindings (any_rest (keeps_from addr mac at x) (list_any (keeps_from addr mac at) bindings) none) b k other)
+    (is_at addr x) refl is
   where
     here : is_at addr x ≡ true → x ≡ b → is_over b.until at ≡ true
     here e f =
@@ -123,7 +124,8 @@ free_binding addr mac at (x ∷ bindings) none b is other =
         (not_kept (is_at addr x) (is_of mac x) (is_over x.until at) (any_first (keeps_from addr mac at x) (list_any (keeps_from addr mac at) bindings) none) e
         (subst (λ (y : Bound4). is_of mac y ≡ false) (sym f) other))
 
-    by : (binding_of addr bindings ≡ Some b → is_over b.until at ≡ true) → (t : Bool) → is_at addr x ≡ t → (if t then Some x else binding_of addr bindings) ≡ Some b → is_over b.until at ≡ true
+    by : (binding_of addr bindings ≡ Some b → is_over b.until at ≡ true) → (t : Bool) → is_at addr x ≡ t
+        → (if t then Some x else binding_of addr bindings) ≡ Some b → is_over b.until at ≡ true
     by more true e f = here e (one_is x b f)
     by more false e f = more f
 
@@ -135,7 +137,8 @@ Stands addr mac end at peer = (is_over end at ≡ true) ⊎ IsBoundUntil addr ma
 abbrev new_bound : Ip4 → Mac → (end : Option ℕ) → List Bound4 → Bound4
 new_bound addr mac end bindings = record { addr = addr; mac = mac; until = end_with mac end (binding_of addr bindings) }
 
-bound_last : (addr : Ip4) (mac : Mac) (end : Option ℕ) (bindings : List Bound4) → binding_of addr (bind addr mac end bindings) ≡ Some (new_bound addr mac end bindings)
+bound_last : (addr : Ip4) (mac : Mac) (end : Option ℕ) (bindings : List Bound4)
+    → binding_of addr (bind addr mac end bindings) ≡ Some (new_bound addr mac end bindings)
 bound_last addr mac end bindings = found_last addr bindings (new_bound addr mac end bindings) (number_itself addr.number)
 
 renewed : (mac : Mac) (end new : Option ℕ) (before : Option Bound4) → IsNoLater end new → IsNoLater end (end_with mac new before)
@@ -180,7 +183,8 @@ module _ (addr : Ip4) (mac : Mac) (end : Option ℕ) (peer : PeerState) (held : 
           subst (λ (x : Ip4). is_free x other at peer ≡ true → Stands addr mac end at (record peer { bindings = bind x other new peer.bindings })) (sym same)
           (λ f. split (is_of other held.bound) (mine f) (theirs f)) is_now_free
         where
-          mine : is_free addr other at peer ≡ true → is_of other held.bound ≡ true → Stands addr mac end at (record peer { bindings = bind addr other new peer.bindings })
+          mine : is_free addr other at peer ≡ true → is_of other held.bound ≡ true
+              → Stands addr mac end at (record peer { bindings = bind addr other new peer.bindings })
           mine f y = inr (record {
             bound = new_bound addr other new peer.bindings;
             is = bound_last addr other new peer.bindings;
@@ -188,7 +192,8 @@ module _ (addr : Ip4) (mac : Mac) (end : Option ℕ) (peer : PeerState) (held : 
             lasts = goes_on other end new (binding_of addr peer.bindings) held.bound held.is y held.lasts;
           })
 
-          theirs : is_free addr other at peer ≡ true → is_of other held.bound ≡ false → Stands addr mac end at (record peer { bindings = bind addr other new peer.bindings })
+          theirs : is_free addr other at peer ≡ true → is_of other held.bound ≡ false
+              → Stands addr mac end at (record peer { bindings = bind addr other new peer.bindings })
           theirs f n = inl (over_before end held.bound.until at held.lasts
               (free_binding addr other at peer.bindings
               (free_parts (in_pool addr peer.pool) (is_spoiled addr peer) (list_any (keeps_from addr other at) peer.bindings) f) held.bound held.is n))
@@ -265,7 +270,8 @@ made_so said peer kind sort addr reply acks e =
 not_ack : (kind : Kind4) → Offer ≡ Ack → kind ≡ Request
 not_ack kind e = absurd cc
 
-by_kind : (at : ℕ) (said : Said4) (peer : PeerState) (reply : Reply) (kind : Kind4) → (hears_kind at said peer kind).says ≡ Some reply → IsReplyTo said peer kind reply
+by_kind : (at : ℕ) (said : Said4) (peer : PeerState) (reply : Reply) (kind : Kind4) → (hears_kind at said peer kind).says ≡ Some reply
+    → IsReplyTo said peer kind reply
 by_kind at said peer reply Discover e = by (offered said.mac at peer) e
   where
     by : (addr : Option Ip4) → option_map (reply_to said peer Offer) addr ≡ Some reply → IsReplyTo said peer Discover reply
@@ -298,7 +304,8 @@ answers_its_client at frame peer reply e = by (client_sent frame) refl e
 -- ---- an ACK binds
 
 abbrev Binds : (at : ℕ) → PeerState → Reply → Response → Type 0
-Binds at peer reply response = response.says ≡ Some reply → reply.kind ≡ Ack → IsBoundUntil reply.yiaddr reply.chaddr (lease_end peer.pool.lease at) response.peer
+Binds at peer reply response =
+    response.says ≡ Some reply → reply.kind ≡ Ack → IsBoundUntil reply.yiaddr reply.chaddr (lease_end peer.pool.lease at) response.peer
 
 other_kind : {A : Type 0} (peer : PeerState) (said : Said4) (sort : ReplyKind) (addr : Ip4) (reply : Reply) → (sort ≡ Ack → ⊥)
     → Some (reply_to said peer sort addr) ≡ Some reply → reply.kind ≡ Ack → A
@@ -313,13 +320,21 @@ nak_is_none e = cc
 -- the answer to a REQUEST by its tests
 abbrev answer_by : (at : ℕ) → Said4 → PeerState → (another free : Bool) → Response
 answer_by at said peer another free =
-    if another then silent peer else (if free then record { peer = with_binding at said (address_wanted said.asked said.ciaddr) peer; says = Some (reply_to said peer Ack (address_wanted said.asked said.ciaddr)) }
+    if another then silent peer
+    else
+    (if free
+    then
+    record {
+      peer = with_binding at said (address_wanted said.asked said.ciaddr) peer;
+      says = Some (reply_to said peer Ack (address_wanted said.asked said.ciaddr));
+    }
     else record { peer = peer; says = Some (reply_to said peer Nak (address_wanted said.asked said.ciaddr)) })
 
 bind_by : (at : ℕ) (said : Said4) (peer : PeerState) (reply : Reply) (kind : Kind4) → Binds at peer reply (hears_kind at said peer kind)
 bind_by at said peer reply Discover e k = by (offered said.mac at peer) e
   where
-    by : (addr : Option Ip4) → option_map (reply_to said peer Offer) addr ≡ Some reply → IsBoundUntil reply.yiaddr reply.chaddr (lease_end peer.pool.lease at) peer
+    by : (addr : Option Ip4) → option_map (reply_to said peer Offer) addr ≡ Some reply
+        → IsBoundUntil reply.yiaddr reply.chaddr (lease_end peer.pool.lease at) peer
     by None e = absurd cc
     by (Some addr) e = other_kind peer said Offer addr reply offer_is_none e k
 bind_by at said peer reply Request e k = by (is_for_another said.server) (is_free (address_wanted said.asked said.ciaddr) said.mac at peer) e
@@ -331,7 +346,8 @@ bind_by at said peer reply Request e k = by (is_for_another said.server) (is_fre
         → IsBoundUntil reply.yiaddr reply.chaddr (lease_end peer.pool.lease at) (answer_by at said peer another free).peer
     by true free e = absurd cc
     by false true e =
-        subst (λ (r : Reply). IsBoundUntil r.yiaddr r.chaddr (lease_end peer.pool.lease at) (with_binding at said addr peer)) (one_is (reply_to said peer Ack addr) reply e)
+        subst (λ (r : Reply). IsBoundUntil r.yiaddr r.chaddr (lease_end peer.pool.lease at) (with_binding at said addr peer))
+        (one_is (reply_to said peer Ack addr) reply e)
         (binds_now addr said.mac (lease_end peer.pool.lease at) peer)
     by false false e = other_kind peer said Nak addr reply nak_is_none e k
 bind_by at said peer reply Decline e k = absurd cc

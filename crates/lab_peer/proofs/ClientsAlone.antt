@@ -109,7 +109,8 @@ seen_whole frame (Some said) sent long mac e =
 said_mac : (message : List ℕ) (kind : Option Kind4) → 240 ≤ length message → (s : Said4)
     → option_map (said_as message (message_instances message)) kind ≡ Some s → length s.mac.bytes ≡ 6
 said_mac message None long s e = absurd cc
-said_mac message (Some kind) long s e = subst (λ (x : Said4). length x.mac.bytes ≡ 6) (one_is (said_as message (message_instances message) kind) s e) (mac_len 28 message (omega (arith, long)))
+said_mac message (Some kind) long s e =
+    subst (λ (x : Said4). length x.mac.bytes ≡ 6) (one_is (said_as message (message_instances message) kind) s e) (mac_len 28 message (omega (arith, long)))
   where
     one_is : (a b : Said4) → Some a ≡ Some b → a ≡ b
     one_is a b e = cc
@@ -125,6 +126,7 @@ unfolding client_sent seen_in said_in
 kindless_frames frame none = rw none refl
 
 pub said_frames : (frame : List ℕ) (kind : Kind4) → option_and_then kind_numbered (byte_of 53 (message_instances (drop 42 frame))) ≡ Some kind
-    → client_sent frame ≡ if_said (ask_in frame) frame (record { ends = ends_in frame; said = said_as (drop 42 frame) (message_instances (drop 42 frame)) kind })
+    → client_sent frame
+    ≡ if_said (ask_in frame) frame (record { ends = ends_in frame; said = said_as (drop 42 frame) (message_instances (drop 42 frame)) kind })
 unfolding client_sent seen_in said_in
 said_frames frame kind is = rw is refl

@@ -39,7 +39,8 @@ module _ (from to : Ip4) (payload : List ℕ) where
 
 pub data_of : (ask : AskContent) (sent : Sent4) → length sent.ends.from_mac.bytes ≡ 6 → length sent.ends.to_mac.bytes ≡ 6
     → drop 42 (frame_of ask sent) ≡ padded (message_text sent.said ask)
-data_of ask sent from_len to_len = has_data sent.ends.from sent.ends.to (padded (message_text sent.said ask)) sent.ends.from_mac.bytes sent.ends.to_mac.bytes from_len to_len
+data_of ask sent from_len to_len =
+    has_data sent.ends.from sent.ends.to (padded (message_text sent.said ask)) sent.ends.from_mac.bytes sent.ends.to_mac.bytes from_len to_len
 
 -- ---- what a message tells of what the client says of itself
 
@@ -135,7 +136,13 @@ tested n h = grind (arith, nat_tests)
 all_tested : (ask : AskContent) → AskFits ask → ask_fits ask ≡ true
 unfolding ask_fits
 all_tested ask fits =
-    rw (tested (length ask.client_id) fits.client_id, tested (length ask.vendor) fits.vendor, tested (length ask.host) fits.host, tested (length ask.list) fits.list) refl
+    rw (
+      tested (length ask.client_id) fits.client_id,
+      tested (length ask.vendor) fits.vendor,
+      tested (length ask.host) fits.host,
+      tested (length ask.list) fits.list,
+    )
+    refl
 
 -- ---- a client's frame is read
 

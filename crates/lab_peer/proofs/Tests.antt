@@ -34,7 +34,8 @@ fits_is ask h =
 pub unfit : (ask : AskContent) (frame : List ℕ) (sent : Sent4) → ask_fits ask ≡ false → None ≡ if_said ask frame sent
 unfit ask frame sent h = rw h refl
 
-pub unspelled : (ask : AskContent) (frame : List ℕ) (sent : Sent4) → ask_fits ask ≡ true → bytes_eq frame (frame_of ask sent) ≡ false → None ≡ if_said ask frame sent
+pub unspelled : (ask : AskContent) (frame : List ℕ) (sent : Sent4) → ask_fits ask ≡ true → bytes_eq frame (frame_of ask sent) ≡ false
+    → None ≡ if_said ask frame sent
 unspelled ask frame sent h s = rw (h, s) refl
 
 pub unowned : (ask : AskContent) (frame : List ℕ) (sent : Sent4) → ask_fits ask ≡ true → bytes_eq frame (frame_of ask sent) ≡ true → is_of_a_client sent ≡ false

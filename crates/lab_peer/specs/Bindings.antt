@@ -1,5 +1,5 @@
--- Which address is bound to which client, and until when (RFC 2131, section 2.2). Moments are in milliseconds since 1970, and none is
--- never.
+-- Which address is bound to which client, and until when (RFC 2131, section 2.2). Moments are in milliseconds since
+-- 1970, and none is never.
 use Rattle.std.specs.Prelude.{ℕ, ◌+◌, ◌*◌, max, Bool, true, false, not, ◌==◌, ◌&&◌, nat_le, if◌then◌else◌, List, [], ◌∷◌, ◌++◌, filter, find, reverse, Option, Some, None, option_map}
 use Rattle.net_types.specs.declared.address.Ip4.{Ip4}
 use Rattle.net_types.specs.declared.address.Mac.{Mac}

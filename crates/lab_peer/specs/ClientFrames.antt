@@ -25,7 +25,9 @@ ask_in frame = ask_among (message_instances (drop 42 frame))
 
 -- each value fits one option
 unfoldable pub ask_fits : AskContent → Bool
-ask_fits ask = nat_lt (length ask.client_id) 256 && nat_lt (length ask.vendor) 256 && nat_lt (length ask.host) 256 && nat_lt (length ask.list) 256
+ask_fits ask =
+    nat_lt (length ask.client_id) 256 && nat_lt (length ask.vendor) 256 && nat_lt (length ask.host) 256
+    && nat_lt (length ask.list) 256
 
 -- the client at this hardware address, which asks for answers by broadcast or doesn't
 abbrev pub speaker : Sent4 → (broadcast : Bool) → Speaker

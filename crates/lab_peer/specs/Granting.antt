@@ -1,5 +1,5 @@
--- That what a server grants stays bound until it is over (RFC 2131, section 4.3.1). Moments are in milliseconds since 1970, and none is
--- never.
+-- That what a server grants stays bound until it is over (RFC 2131, section 4.3.1). Moments are in milliseconds since
+-- 1970, and none is never.
 use Rattle.std.specs.Prelude.{◌≡◌, ℕ, ◌≤◌, ◌⊎◌, true, List, Option, Some, None}
 use Rattle.net_types.specs.declared.address.Ip4.{Ip4}
 use Rattle.net_types.specs.declared.address.Mac.{Mac}
@@ -26,7 +26,9 @@ pub record IsBoundUntil (addr : Ip4) (mac : Mac) (end : Option ℕ) (peer : Peer
 
 -- What is bound stays bound, whatever is heard, unless its end has come.
 abbrev pub StaysBound : Type 0
-StaysBound = (addr : Ip4) (mac : Mac) (end : Option ℕ) (at : ℕ) (frame : List ℕ) (peer : PeerState) → IsBoundUntil addr mac end peer
+StaysBound =
+    (addr : Ip4) (mac : Mac) (end : Option ℕ) (at : ℕ) (frame : List ℕ) (peer : PeerState)
+    → IsBoundUntil addr mac end peer
     → (is_over end at ≡ true) ⊎ IsBoundUntil addr mac end (hears at frame peer).peer
 
 abbrev pub KeepsItsPool : Type 0
@@ -42,9 +44,13 @@ pub record IsAnswer (frame : List ℕ) (peer : PeerState) (reply : Reply) : Type
   pub to_request : reply.kind ≡ Ack → sent.said.kind ≡ Request
 
 abbrev pub AnswersItsClient : Type 0
-AnswersItsClient = (at : ℕ) (frame : List ℕ) (peer : PeerState) (reply : Reply) → (hears at frame peer).says ≡ Some reply → IsAnswer frame peer reply
+AnswersItsClient =
+    (at : ℕ) (frame : List ℕ) (peer : PeerState) (reply : Reply) → (hears at frame peer).says ≡ Some reply
+    → IsAnswer frame peer reply
 
 -- An ACK binds.
 abbrev pub AcksBind : Type 0
-AcksBind = (at : ℕ) (frame : List ℕ) (peer : PeerState) (reply : Reply) → (hears at frame peer).says ≡ Some reply → reply.kind ≡ Ack
+AcksBind =
+    (at : ℕ) (frame : List ℕ) (peer : PeerState) (reply : Reply) → (hears at frame peer).says ≡ Some reply
+    → reply.kind ≡ Ack
     → IsBoundUntil reply.yiaddr reply.chaddr (lease_end peer.pool.lease at) (hears at frame peer).peer

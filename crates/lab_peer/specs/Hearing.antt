@@ -1,5 +1,5 @@
--- What a scripted server makes of the frames that it hears (RFC 2131, section 4.3). Unlike a server of the standard it frees no address at a
--- RELEASE: a frame of the lab may come late.
+-- What a scripted server makes of the frames that it hears (RFC 2131, section 4.3). Unlike a server of the standard it
+-- frees no address at a RELEASE: a frame of the lab may come late.
 use Rattle.std.specs.Prelude.{ℕ, Bool, false, not, ◌==◌, ◌&&◌, if◌then◌else◌, List, [], ◌∷◌, ◌++◌, find, Option, Some, None, option_map}
 use Rattle.std.specs.List.{list_any}
 use Rattle.net_types.specs.declared.address.Ip4.{Ip4}
@@ -36,7 +36,8 @@ is_spoiled addr peer = list_any (λ spoiled. spoiled.number == addr.number) peer
 
 -- free for a client: of the pool, not spoiled, and kept from it by no binding of another one
 abbrev pub is_free : Ip4 → Mac → (at : ℕ) → PeerState → Bool
-is_free addr mac at peer = in_pool addr peer.pool && not (is_spoiled addr peer) && not (list_any (keeps_from addr mac at) peer.bindings)
+is_free addr mac at peer =
+    in_pool addr peer.pool && not (is_spoiled addr peer) && not (list_any (keeps_from addr mac at) peer.bindings)
 
 abbrev pub lowest_free : Mac → (at : ℕ) → PeerState → Option Ip4
 lowest_free mac at peer = find (λ addr. is_free addr mac at peer) (addresses_of peer.pool)
@@ -60,10 +61,12 @@ abbrev pub silent : PeerState → Response
 silent peer = record { peer = peer; says = None }
 
 abbrev pub reply_to : Said4 → PeerState → ReplyKind → Ip4 → Reply
-reply_to said peer kind addr = record { kind = kind; chaddr = said.mac; xid = said.xid; yiaddr = addr; server = SERVER; lease = peer.pool.lease }
+reply_to said peer kind addr =
+    record { kind = kind; chaddr = said.mac; xid = said.xid; yiaddr = addr; server = SERVER; lease = peer.pool.lease }
 
 abbrev pub discovered : (at : ℕ) → Said4 → PeerState → Response
-discovered at said peer = record { peer = peer; says = option_map (reply_to said peer Offer) (offered said.mac at peer) }
+discovered at said peer =
+    record { peer = peer; says = option_map (reply_to said peer Offer) (offered said.mac at peer) }
 
 -- the address that is asked for, else the client's own
 abbrev pub address_wanted : (asked : Option Ip4) → (ciaddr : Ip4) → Ip4
@@ -76,7 +79,8 @@ is_for_another None = false
 is_for_another (Some server) = not (server.number == SERVER.number)
 
 abbrev pub with_binding : (at : ℕ) → Said4 → Ip4 → PeerState → PeerState
-with_binding at said addr peer = record peer { bindings = bind addr said.mac (lease_end peer.pool.lease at) peer.bindings }
+with_binding at said addr peer =
+    record peer { bindings = bind addr said.mac (lease_end peer.pool.lease at) peer.bindings }
 
 -- An address that is free for the client becomes its own. Any other one is refused.
 abbrev pub requested : (at : ℕ) → Said4 → Ip4 → PeerState → Response
@@ -88,7 +92,8 @@ requested at said addr peer =
 -- An address that is bound to the client is spoiled, and its binding stays.
 abbrev pub declined : Mac → (asked : Option Ip4) → PeerState → PeerState
 declined mac None peer = peer
-declined mac (Some addr) peer = if list_any (is_bound addr mac) peer.bindings then record peer { spoiled = peer.spoiled ++ addr ∷ [] } else peer
+declined mac (Some addr) peer =
+    if list_any (is_bound addr mac) peer.bindings then record peer { spoiled = peer.spoiled ++ addr ∷ [] } else peer
 
 abbrev pub hears_kind : (at : ℕ) → Said4 → PeerState → Kind4 → Response
 hears_kind at said peer Discover = discovered at said peer

@@ -20,5 +20,6 @@ addresses_of pool = addresses_from pool.low.number (pool.high.number - pool.low.
 -- at least one address and at most 256, none of them the server's own, each for a second at least
 abbrev pub is_pool : Pool → Bool
 is_pool pool =
-    nat_le pool.low.number pool.high.number && nat_lt (pool.high.number - pool.low.number) POOL_LIMIT && not (in_pool SERVER pool)
+    nat_le pool.low.number pool.high.number && nat_lt (pool.high.number - pool.low.number) POOL_LIMIT
+    && not (in_pool SERVER pool)
     && nat_lt 0 pool.lease

@@ -49,8 +49,8 @@ const OPTIONS: usize = 240;
 /// The most bytes of an option's value.
 const VALUE_MAX: usize = 255;
 
-/// The message of some client whose frame this is, byte for byte. None where no client says it, whatever its configuration is.
-/// Only want of memory is an error.
+/// The message of some client whose frame this is, byte for byte. None where no client says it, whatever its
+/// configuration is. Only want of memory is an error.
 pub fn client_sent(alloc: Global, frame: &[u8]) -> Result<Option<Sent4>, NoMemory>
     ensures { IfOk result (λ sent. sent ≡ texts.client_sent frame.now) }
 {
@@ -79,7 +79,8 @@ fn if_said(
     sent: &Sent4,
     options: &OptionView,
 ) -> Result<Option<Sent4>, NoMemory>
-    ensures { IfOk result (λ said. said ≡ texts.if_said (texts.ask_among (view_instances options.now)) frame.now sent.now) }
+    ensures { IfOk result
+        (λ said. said ≡ texts.if_said (texts.ask_among (view_instances options.now)) frame.now sent.now) }
 {
     let ask = ask_in(alloc, options)?;
     if !fits(&ask) {
@@ -210,7 +211,8 @@ fn is_spelled(alloc: Global, frame: &[u8], sent: &Sent4, ask: &Ask4) -> Result<b
     Ok(frame == spelled.as_slice())
 }
 
-/// Whether the client at the message's own hardware address may say it, one that asks for answers by broadcast or one that doesn't.
+/// Whether the client at the message's own hardware address may say it, one that asks for answers by broadcast or one
+/// that doesn't.
 #[tactic(auto, unfolding(crate::specs::ClientFrames::is_of_a_client))]
 fn is_of_a_client(sent: &Sent4) -> bool
     ensures { result ≡ texts.is_of_a_client sent.now }

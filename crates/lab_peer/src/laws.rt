@@ -1,4 +1,5 @@
-//! What is true of the frames that are read as a client's, and of what is bound. These functions do nothing: their contracts are the laws.
+//! What is true of the frames that are read as a client's, and of what is bound. These functions do nothing: their
+//! contracts are the laws.
 
 ghost use Rattle.lab_peer.specs.Granting.{AcksBind, AnswersItsClient, KeepsItsPool, StaysBound};
 ghost use Rattle.lab_peer.specs.Laws.{ClientsAloneAreRead, EachClientIsRead};
@@ -19,8 +20,8 @@ pub fn bindings_last()
     ensures pool { KeepsItsPool }
 {}
 
-/// Law: an answer goes to the client that was heard, with its transaction number; and an ACK answers a REQUEST, and binds its address to the
-/// client for the time of the lease at least.
+/// Law: an answer goes to the client that was heard, with its transaction number; and an ACK answers a REQUEST, and
+/// binds its address to the client for the time of the lease at least.
 pub fn acks_bind()
     ensures answers { AnswersItsClient }
     ensures binds { AcksBind }

@@ -1,5 +1,5 @@
-//! A scripted DHCPv4 server (RFC 2131) for experiments with many clients: what it makes of each frame of a client, and what it
-//! has bound until when. It knows no client's configuration.
+//! A scripted DHCPv4 server (RFC 2131) for experiments with many clients: what it makes of each frame of a client, and
+//! what it has bound until when. It knows no client's configuration.
 #![tactic(auto)]
 
 mod binding;

@@ -49,10 +49,10 @@ impl Peer {
         &self.bindings
     }
 
-    /// Hears a frame at a moment in milliseconds since 1970, and hands back the frame that it answers. A DISCOVER is offered the
-    /// client's last address, or the lowest free one; a REQUEST is granted or refused; a DECLINE spoils an address of the
-    /// client; a RELEASE, and what no client says, change nothing (RFC 2131, section 4.3). Only want of memory is an error, and it
-    /// changes nothing.
+    /// Hears a frame at a moment in milliseconds since 1970, and hands back the frame that it answers. A DISCOVER is
+    /// offered the client's last address, or the lowest free one; a REQUEST is granted or refused; a DECLINE spoils an
+    /// address of the client; a RELEASE, and what no client says, change nothing (RFC 2131, section 4.3). Only want of
+    /// memory is an error, and it changes nothing.
     pub fn hear(
         &mut self,
         alloc: Global,
@@ -61,7 +61,8 @@ impl Peer {
     ) -> Result<Option<Vec<u8>>, NoMemory>
         requires { at < 10 ^ 15 }
         ensures heard { OnOk result (self.new ≡ (texts.hears at frame.now self.old).peer) }
-        ensures made { IfOk result (λ made. option_map (λ v. v.items) made ≡ texts.made (texts.hears at frame.now self.old)) }
+        ensures made { IfOk result
+            (λ made. option_map (λ v. v.items) made ≡ texts.made (texts.hears at frame.now self.old)) }
         ensures kept { IfErr result (λ _. self.new ≡ self.old) }
     {
         match client_sent(alloc, frame)? {
@@ -78,7 +79,8 @@ impl Peer {
     ) -> Result<Option<Vec<u8>>, NoMemory>
         requires { at < 10 ^ 15 }
         ensures heard { OnOk result (self.new ≡ (texts.hears_kind at said self.old said.kind).peer) }
-        ensures made { IfOk result (λ made. option_map (λ v. v.items) made ≡ texts.made (texts.hears_kind at said self.old said.kind)) }
+        ensures made { IfOk result
+            (λ made. option_map (λ v. v.items) made ≡ texts.made (texts.hears_kind at said self.old said.kind)) }
         ensures kept { IfErr result (λ _. self.new ≡ self.old) }
     {
         match said.kind {
@@ -149,7 +151,8 @@ impl Peer {
 
     /// The answer to a DISCOVER. It binds nothing.
     fn offer(&self, alloc: Global, said: Said4, at: u64) -> Result<Option<Vec<u8>>, NoMemory>
-        ensures { IfOk result (λ made. option_map (λ v. v.items) made ≡ texts.made (texts.discovered at said self.now)) }
+        ensures { IfOk result
+            (λ made. option_map (λ v. v.items) made ≡ texts.made (texts.discovered at said self.now)) }
     {
         let Some(addr) = self.offered(said.mac, at) else {
             return Ok(None);
@@ -161,8 +164,11 @@ impl Peer {
     /// The answer to a REQUEST to this server or to all.
     fn answer(&mut self, alloc: Global, said: Said4, at: u64) -> Result<Option<Vec<u8>>, NoMemory>
         requires { at < 10 ^ 15 }
-        ensures heard { OnOk result (self.new ≡ (texts.requested at said (texts.address_wanted said.asked said.ciaddr) self.old).peer) }
-        ensures made { IfOk result (λ made. option_map (λ v. v.items) made ≡ texts.made (texts.requested at said (texts.address_wanted said.asked said.ciaddr) self.old)) }
+        ensures heard { OnOk result
+            (self.new ≡ (texts.requested at said (texts.address_wanted said.asked said.ciaddr) self.old).peer) }
+        ensures made { IfOk result
+            (λ made. option_map (λ v. v.items) made
+            ≡ texts.made (texts.requested at said (texts.address_wanted said.asked said.ciaddr) self.old)) }
         ensures kept { IfErr result (λ _. self.new ≡ self.old) }
     {
         let addr = address_wanted(said.asked, said.ciaddr);
@@ -183,7 +189,9 @@ impl Peer {
     ) -> Result<Option<Vec<u8>>, NoMemory>
         requires { at < 10 ^ 15 }
         ensures heard { OnOk result (self.new ≡ texts.with_binding at said addr self.old) }
-        ensures made { IfOk result (λ made. option_map (λ v. v.items) made ≡ Some (server_frame (texts.reply_to said self.old ReplyKind.Ack addr))) }
+        ensures made { IfOk result
+            (λ made. option_map (λ v. v.items) made
+            ≡ Some (server_frame (texts.reply_to said self.old ReplyKind.Ack addr))) }
         ensures kept { IfErr result (λ _. self.new ≡ self.old) }
     {
         let end = lease_end(self.pool.lease, at);
@@ -194,7 +202,9 @@ impl Peer {
     }
 
     fn refuse(&self, alloc: Global, said: Said4, addr: Ip4) -> Result<Option<Vec<u8>>, NoMemory>
-        ensures { IfOk result (λ made. option_map (λ v. v.items) made ≡ Some (server_frame (texts.reply_to said self.now ReplyKind.Nak addr))) }
+        ensures { IfOk result
+            (λ made. option_map (λ v. v.items) made
+            ≡ Some (server_frame (texts.reply_to said self.now ReplyKind.Nak addr))) }
     {
         let frame = server_frame(alloc, &self.reply_to(said, ReplyKind::Nak, addr))?;
         Ok(Some(frame))

@@ -19,7 +19,8 @@ pub struct Pool {
 }
 
 impl Pool {
-    /// Whether it has at least one address and at most 256, without the server's own, and gives them for a second at least.
+    /// Whether it has at least one address and at most 256, without the server's own, and gives them for a second at
+    /// least.
     pub fn is_valid(&self) -> bool
         ensures { result ≡ texts.is_pool self.now }
     {

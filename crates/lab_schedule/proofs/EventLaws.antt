@@ -40,14 +40,17 @@ pool_words pool = ip4_text pool.low ++ 32 ∷ (ip4_text pool.high ++ 32 ∷ deci
 abbrev Ranged : Pool → Type 0
 Ranged pool = FitsIp4 pool.low × (FitsIp4 pool.high × (pool.lease < 2 ^ 32))
 
-parts_reads : Reads (λ (p : Parts). ip4_text p.0 ++ 32 ∷ (ip4_text p.1.0 ++ 32 ∷ decimal p.1.1)) (λ p. FitsIp4 p.0 × (FitsIp4 p.1.0 × (p.1.1 < 2 ^ 32))) (pair_at 32 ip4_at (pair_at 32 ip4_at (number_at (2 ^ 32))))
+parts_reads : Reads (λ (p : Parts). ip4_text p.0 ++ 32 ∷ (ip4_text p.1.0 ++ 32 ∷ decimal p.1.1)) (λ p. FitsIp4 p.0 × (FitsIp4 p.1.0 × (p.1.1 < 2 ^ 32)))
+    (pair_at 32 ip4_at (pair_at 32 ip4_at (number_at (2 ^ 32))))
 parts_reads =
-    pair_reads 32 ip4_reads (pair_reads 32 ip4_reads (number_reads (2 ^ 32) (omega arith)) (λ ip fits. ip4_lacks ip 32 fits refl)) (λ ip fits. ip4_lacks ip 32 fits refl)
+    pair_reads 32 ip4_reads (pair_reads 32 ip4_reads (number_reads (2 ^ 32) (omega arith)) (λ ip fits. ip4_lacks ip 32 fits refl))
+    (λ ip fits. ip4_lacks ip 32 fits refl)
 
 pub pool_reads : Reads pool_words FitsPool pool_at
 unfolding pool_at
 pool_reads =
-    same_range FitsPool (λ pool fits. ((fits.low, (fits.high, fits.lease)), fits.valid)) (λ pool fits. record { low = fits.0.0; high = fits.0.1.0; lease = fits.0.1.1; valid = fits.1 })
+    same_range FitsPool (λ pool fits. ((fits.low, (fits.high, fits.lease)), fits.valid))
+    (λ pool fits. record { low = fits.0.0; high = fits.0.1.0; lease = fits.0.1.1; valid = fits.1 })
     (guard_reads is_pool
     (map_reads {FitsX = Ranged} (λ (p : Parts). record { low = p.0; high = p.1.0; lease = p.1.1 }) (λ pool. (pool.low, (pool.high, pool.lease))) parts_reads
     (λ p fits. refl) (λ pool fits. refl) (λ p fits. fits) (λ pool fits. fits)))
@@ -97,7 +100,8 @@ Given = ℕ × (ℕ × (IfIndex × ℕ))
 abbrev given_words : Given → List ℕ
 given_words p = decimal p.0 ++ 32 ∷ (decimal p.1.0 ++ 32 ∷ (iface_text p.1.1.0 ++ 32 ∷ decimal p.1.1.1))
 
-given_reads : Reads given_words (λ p. (p.0 < 10 ^ 15) × ((p.1.0 < 2 ^ 64) × (FitsIface p.1.1.0 × (p.1.1.1 < 2 ^ 64)))) (pair_at 32 moment_at (pair_at 32 salt_at (pair_at 32 iface_at number64_at)))
+given_reads : Reads given_words (λ p. (p.0 < 10 ^ 15) × ((p.1.0 < 2 ^ 64) × (FitsIface p.1.1.0 × (p.1.1.1 < 2 ^ 64))))
+    (pair_at 32 moment_at (pair_at 32 salt_at (pair_at 32 iface_at number64_at)))
 given_reads = pair_reads 32 moment_reads (pair_reads 32 salt_reads (pair_reads 32 iface_reads number_reads64 iface_lacks) salt_lacks) moment_lacks
 
 abbrev Switched : Type 0
@@ -106,7 +110,8 @@ Switched = ℕ × (ℕ × (IfIndex × Bool))
 abbrev switched_words : Switched → List ℕ
 switched_words p = decimal p.0 ++ 32 ∷ (decimal p.1.0 ++ 32 ∷ (iface_text p.1.1.0 ++ 32 ∷ carrier_text p.1.1.1))
 
-switched_reads : Reads switched_words (λ p. (p.0 < 10 ^ 15) × ((p.1.0 < 2 ^ 64) × (FitsIface p.1.1.0 × Unit {0}))) (pair_at 32 moment_at (pair_at 32 salt_at (pair_at 32 iface_at switch_at)))
+switched_reads : Reads switched_words (λ p. (p.0 < 10 ^ 15) × ((p.1.0 < 2 ^ 64) × (FitsIface p.1.1.0 × Unit {0})))
+    (pair_at 32 moment_at (pair_at 32 salt_at (pair_at 32 iface_at switch_at)))
 switched_reads = pair_reads 32 moment_reads (pair_reads 32 salt_reads (pair_reads 32 iface_reads switch_reads iface_lacks) salt_lacks) moment_lacks
 
 -- ---- their events
@@ -200,9 +205,11 @@ moment_printable at small = decimal_printable at (omega arith)
 two_printable : (p : Two) → (p.0 < 10 ^ 15) × (p.1 < 2 ^ 64) → IsPrintable (two_words p)
 two_printable p fits = joined_printable (decimal p.0) (decimal p.1) (moment_printable p.0 fits.0) (decimal_printable p.1 fits.1)
 
-on_printable : (at salt : ℕ) (rest : List ℕ) → (at < 10 ^ 15) × (salt < 2 ^ 64) → IsPrintable rest → IsPrintable (decimal at ++ 32 ∷ (decimal salt ++ 32 ∷ rest))
+on_printable : (at salt : ℕ) (rest : List ℕ) → (at < 10 ^ 15) × (salt < 2 ^ 64) → IsPrintable rest
+    → IsPrintable (decimal at ++ 32 ∷ (decimal salt ++ 32 ∷ rest))
 on_printable at salt rest fits only =
-    joined_printable (decimal at) (decimal salt ++ 32 ∷ rest) (moment_printable at fits.0) (joined_printable (decimal salt) rest (decimal_printable salt fits.1) only)
+    joined_printable (decimal at) (decimal salt ++ 32 ∷ rest) (moment_printable at fits.0)
+    (joined_printable (decimal salt) rest (decimal_printable salt fits.1) only)
 
 carrier_printable : (up : Bool) → IsPrintable (carrier_text up)
 carrier_printable true = refl

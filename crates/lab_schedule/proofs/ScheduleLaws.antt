@@ -56,7 +56,9 @@ conf_taken head next lines text after e =
       conf = after.conf ++ text ∷ [];
       configured = ap (λ t. t ++ ended text) after.configured ∙ sym (lines_ended after.conf text);
       each = all_join (Lacks 10) after.conf (text ∷ []) after.each (parts.1, tt);
-      are = ap (λ ls. ls ++ conf_line text ∷ []) after.are ∙ ap (λ ls. head_line ∷ ls) (line_more conf_line after.conf text (map interface_text head.ifaces) none);
+      are =
+          ap (λ ls. ls ++ conf_line text ∷ []) after.are
+          ∙ ap (λ ls. head_line ∷ ls) (line_more conf_line after.conf text (map interface_text head.ifaces) none);
       fits = after.fits;
     } in
     subst (λ h. AfterHead h (lines ++ conf_line text ∷ [])) (some_same tests.1) after_all
@@ -76,12 +78,14 @@ iface_taken head next lines rest after e =
           ∙ ap (λ ls. head_line ∷ ls)
           (behind (map conf_line after.conf) (map interface_text head.ifaces) (map interface_text (head.ifaces ++ m.value ∷ [])) (interface_text m.value)
           (sym (map-append interface_text head.ifaces (m.value ∷ []))));
-      fits = interfaces_sound (head.ifaces ++ m.value ∷ []) (record { each = all_join FitsSpec head.ifaces (m.value ∷ []) before.each (read.1, tt); test = g.1 });
+      fits =
+          interfaces_sound (head.ifaces ++ m.value ∷ []) (record { each = all_join FitsSpec head.ifaces (m.value ∷ []) before.each (read.1, tt); test = g.1 });
     } in
     subst (λ line. AfterHead next (lines ++ line ∷ [])) (sym spelled) (subst (λ h. AfterHead h (lines ++ interface_text m.value ∷ [])) m.gives after_all)
 
 -- a state that comes of a value
-made_of : {A : Type 0} (make : A → Reading) (o : Option A) (next : Reading) (lines : List Line) → option_map make o ≡ Some next → ((a : A) → o ≡ Some a → After (make a) lines) → After next lines
+made_of : {A : Type 0} (make : A → Reading) (o : Option A) (next : Reading) (lines : List Line) → option_map make o ≡ Some next
+    → ((a : A) → o ≡ Some a → After (make a) lines) → After next lines
 made_of make o next lines e after = let m = mapped make o next e in subst (λ s. After s lines) m.gives (after m.value m.was)
 
 worded : (next : Reading) (lines : List Line) (line other : Line) → line ≡ other → After next (lines ++ other ∷ []) → After next (lines ++ line ∷ [])
@@ -93,7 +97,8 @@ pool_taken head pool lines rest after e =
     let spelled : codes "pool " ++ rest ≡ pool_text pool = ap (λ t. codes "pool " ++ t) read.0 ∙ sym (pool_spelled pool) in
     record { before = lines; told = after; are = ap (λ l. lines ++ l ∷ []) spelled; fits = read.1 }
 
-head_taken : (head : Head) (next : Reading) (lines : List Line) (line : Line) → AfterHead head lines → after_head head line ≡ Some next → After next (lines ++ line ∷ [])
+head_taken : (head : Head) (next : Reading) (lines : List Line) (line : Line) → AfterHead head lines → after_head head line ≡ Some next
+    → After next (lines ++ line ∷ [])
 unfolding after_head
 head_taken head next lines line after e =
     by_cases (codes "c:") line (λ text. option_map Heading (conf_more head text)) _ next e
@@ -110,7 +115,8 @@ start_fits count begin fits = record { at = fits.at; salt = fits.salt; up = fits
 abbrev pub begun : Head → Pool → Begin → Schedule
 begun head pool begin = record { conf = head.conf; ifaces = head.ifaces; pool = pool; begin = begin; events = [] }
 
-start_taken : (head : Head) (pool : Pool) (next : Reading) (lines : List Line) (line : Line) → AfterPool head pool lines → after_pool head pool line ≡ Some next → After next (lines ++ line ∷ [])
+start_taken : (head : Head) (pool : Pool) (next : Reading) (lines : List Line) (line : Line) → AfterPool head pool lines → after_pool head pool line ≡ Some next
+    → After next (lines ++ line ∷ [])
 unfolding after_pool
 start_taken head pool next lines line after e =
     let before = after.told in
@@ -122,16 +128,20 @@ start_taken head pool next lines line after e =
       conf = before.conf;
       configured = before.configured;
       each = before.each;
-      are = ap (λ l. lines ++ l ∷ []) (read.0 ∙ sym (begin_spelled begin)) ∙ ap (λ ls. ls ++ start_text begin ∷ []) (after.are ∙ ap (λ ls. ls ++ pool_text pool ∷ []) before.are)
+      are =
+          ap (λ l. lines ++ l ∷ []) (read.0 ∙ sym (begin_spelled begin))
+          ∙ ap (λ ls. ls ++ start_text begin ∷ []) (after.are ∙ ap (λ ls. ls ++ pool_text pool ∷ []) before.are)
           ∙ append_assoc (heading before.conf head.ifaces) (pool_text pool ∷ []) (start_text begin ∷ []);
       fits = record { ifaces = before.fits; pool = after.fits; begin = start_fits (length head.ifaces) begin read.1; events = tt };
     })
 
-event_taken : (schedule : Schedule) (next : Reading) (lines : List Line) (line : Line) → SpellsSchedule schedule lines → after_start schedule line ≡ Some next → After next (lines ++ line ∷ [])
+event_taken : (schedule : Schedule) (next : Reading) (lines : List Line) (line : Line) → SpellsSchedule schedule lines → after_start schedule line ≡ Some next
+    → After next (lines ++ line ∷ [])
 unfolding after_start
 event_taken schedule next lines line spells e =
     let fits = spells.fits in
-    made_of (λ event. Begun (record schedule { events = schedule.events ++ event ∷ [] })) (guarded (is_on (length schedule.ifaces)) (event_at line)) next (lines ++ line ∷ []) e
+    made_of (λ event. Begun (record schedule { events = schedule.events ++ event ∷ [] })) (guarded (is_on (length schedule.ifaces)) (event_at line)) next
+    (lines ++ line ∷ []) e
     (λ event was.
     let g = guard_passed (is_on (length schedule.ifaces)) (event_at line) event was in
     let read = event_reads.sound line event g.0 in
@@ -148,7 +158,8 @@ event_taken schedule next lines line spells e =
         ifaces = fits.ifaces;
         pool = fits.pool;
         begin = fits.begin;
-        events = all_join (FitsLabEvent (length schedule.ifaces)) schedule.events (event ∷ []) fits.events (on_sound (length schedule.ifaces) event read.1 g.1, tt);
+        events =
+            all_join (FitsLabEvent (length schedule.ifaces)) schedule.events (event ∷ []) fits.events (on_sound (length schedule.ifaces) event read.1 g.1, tt);
       };
     })
 
@@ -242,7 +253,8 @@ conf_step : (done : List Line) (text : Line) (later : List Line) → AllByRecurs
 unfolding after_head strip_word
 conf_step done text later each =
     let free : lacks_feed text ≡ true = all_next (Lacks 10) done text later each in
-    ap (λ b. option_map Heading (cond b (Some (head_at (lines_text done ++ ended text) [])) None)) free ∙ ap (λ c. Some (Heading (head_at c []))) (sym (lines_ended done text))
+    ap (λ b. option_map Heading (cond b (Some (head_at (lines_text done ++ ended text) [])) None)) free
+    ∙ ap (λ c. Some (Heading (head_at c []))) (sym (lines_ended done text))
 
 counted_front : (index : ℕ) (xs ys : List IfSpec) → CountsFrom index (xs ++ ys) → CountsFrom index xs
 counted_front index [] ys counts = tt
@@ -268,14 +280,16 @@ pool_step : (head : Head) (pool : Pool) → FitsPool pool → step (Heading head
 unfolding after_head strip_word
 pool_step head pool fits = ap (after_head head) (pool_spelled pool) ∙ ap (option_map (Pooled head)) (pool_reads.whole pool fits)
 
-start_step : (head : Head) (pool : Pool) (begin : Begin) → length head.ifaces ≤ 64 → FitsStart (length head.ifaces) begin → step (Pooled head pool) (start_text begin) ≡ Some (Begun (begun head pool begin))
+start_step : (head : Head) (pool : Pool) (begin : Begin) → length head.ifaces ≤ 64 → FitsStart (length head.ifaces) begin
+    → step (Pooled head pool) (start_text begin) ≡ Some (Begun (begun head pool begin))
 unfolding after_pool
 start_step head pool begin few fits =
     ap (after_pool head pool) (begin_spelled begin)
     ∙ ap (option_map (λ b. Begun (begun head pool b)))
     ((word_reads (codes "start ") (begin_reads (length head.ifaces) few)).whole begin (record { at = fits.at; salt = fits.salt; up = fits.up }))
 
-event_step : (first : Schedule) (few : length first.ifaces ≤ 64) (done : List LabEvent) (event : LabEvent) (later : List LabEvent) → AllByRecursion (FitsLabEvent (length first.ifaces)) (done ++ event ∷ later)
+event_step : (first : Schedule) (few : length first.ifaces ≤ 64) (done : List LabEvent) (event : LabEvent) (later : List LabEvent)
+    → AllByRecursion (FitsLabEvent (length first.ifaces)) (done ++ event ∷ later)
     → step (Begun (record first { events = done })) (event_text event) ≡ Some (Begun (record first { events = done ++ event ∷ [] }))
 unfolding after_start
 event_step first few done event later each =
@@ -293,18 +307,25 @@ whole_run conf schedule configured each fits =
     let ifaces : run step (map interface_text schedule.ifaces) (Heading (head_at (lines_text conf) [])) ≡ Some (Heading head) =
     blocks interface_text (λ done. Heading (head_at (lines_text conf) done)) FitInterfaces (iface_step (lines_text conf)) [] schedule.ifaces fits.ifaces in
     let heads_run : run step (heading conf schedule.ifaces) Nothing ≡ Some (Heading head) =
-    follow (map conf_line conf) (map interface_text schedule.ifaces) (Heading nothing_read) (Heading (head_at (lines_text conf) [])) (Some (Heading head)) confs ifaces in
+    follow (map conf_line conf) (map interface_text schedule.ifaces) (Heading nothing_read) (Heading (head_at (lines_text conf) []))
+    (Some (Heading head)) confs ifaces in
     let first : Schedule = begun head schedule.pool schedule.begin in
     let events : run step (map event_text schedule.events) (Begun first) ≡ Some (Begun (record first { events = schedule.events })) =
-    blocks event_text (λ done. Begun (record first { events = done })) (AllByRecursion (FitsLabEvent (length schedule.ifaces))) (event_step first few) [] schedule.events fits.events in
-    follow (heading conf schedule.ifaces) (pool_text schedule.pool ∷ start_text schedule.begin ∷ map event_text schedule.events) Nothing (Heading head) (Some (Begun schedule)) heads_run
+    blocks event_text (λ done. Begun (record first { events = done })) (AllByRecursion (FitsLabEvent (length schedule.ifaces)))
+    (event_step first few) [] schedule.events fits.events in
+    follow (heading conf schedule.ifaces) (pool_text schedule.pool ∷ start_text schedule.begin ∷ map event_text schedule.events) Nothing (Heading head)
+    (Some (Begun schedule)) heads_run
     (ap (option_and_then (run step (start_text schedule.begin ∷ map event_text schedule.events))) (pool_step head schedule.pool fits.pool)
     ∙ ap (option_and_then (run step (map event_text schedule.events))) (start_step head schedule.pool schedule.begin few fits.begin)
     ∙ events ∙ ap (λ c. Some (Begun (record schedule { conf = c }))) (sym configured))
 
 whole : (value : Schedule) (lines : List Line) → SpellsSchedule value lines → WholeRun step given Nothing lines value
 whole value lines spells =
-    record { state = Begun value; runs = ap (λ ls. run step ls Nothing) spells.are ∙ whole_run spells.conf value spells.configured spells.each spells.fits; gives = refl }
+    record {
+      state = Begun value;
+      runs = ap (λ ls. run step ls Nothing) spells.are ∙ whole_run spells.conf value spells.configured spells.each spells.fits;
+      gives = refl;
+    }
 
 -- ---- no line has a line feed
 
@@ -337,7 +358,8 @@ are_lines value lines spells =
       subst (Lacks 10) (sym (pool_spelled value.pool)) (pool_lacks value.pool fits.pool),
       (
         start_lacks (length value.ifaces) value.begin few fits.begin,
-        mapped_all (FitsLabEvent (length value.ifaces)) event_text (λ event on. event_lacks event (on_whole (length value.ifaces) event few on).0) value.events fits.events,
+        mapped_all (FitsLabEvent (length value.ifaces)) event_text
+            (λ event on. event_lacks event (on_whole (length value.ifaces) event few on).0) value.events fits.events,
       ),
     ))
 

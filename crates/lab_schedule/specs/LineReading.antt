@@ -18,7 +18,8 @@ lacks_feed text = list_all (λ b. not (b == 10)) text
 unfoldable pub pool_at : List ℕ → Option Pool
 pool_at text =
     guarded is_pool
-    (option_map (λ p. record { low = p.0; high = p.1.0; lease = p.1.1 }) (pair_at 32 ip4_at (pair_at 32 ip4_at (number_at (2 ^ 32))) text))
+    (option_map (λ p. record { low = p.0; high = p.1.0; lease = p.1.1 })
+    (pair_at 32 ip4_at (pair_at 32 ip4_at (number_at (2 ^ 32))) text))
 
 abbrev pub number64_at : List ℕ → Option ℕ
 number64_at text = number_at (2 ^ 64) text

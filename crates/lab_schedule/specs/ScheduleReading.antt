@@ -33,10 +33,13 @@ nothing_read = record { conf = []; ifaces = [] }
 -- ---- a line more
 
 abbrev pub conf_more : Head → List ℕ → Option Head
-conf_more head text = if none_of head.ifaces && lacks_feed text then Some (record head { conf = head.conf ++ ended text }) else None
+conf_more head text =
+    if none_of head.ifaces && lacks_feed text then Some (record head { conf = head.conf ++ ended text }) else None
 
 abbrev pub iface_more : Head → List ℕ → Option Head
-iface_more head rest = option_map (λ spec. record head { ifaces = head.ifaces ++ spec ∷ [] }) (guarded (fits_next head.ifaces) (spec_at rest))
+iface_more head rest =
+    option_map (λ spec. record head { ifaces = head.ifaces ++ spec ∷ [] })
+    (guarded (fits_next head.ifaces) (spec_at rest))
 
 abbrev pub heads : Head → Choices Reading
 heads head =
@@ -50,7 +53,8 @@ after_head head line = choose_at (heads head) line
 
 unfoldable pub after_pool : Head → Pool → Line → Option Reading
 after_pool head pool line =
-    option_map (λ begin. Begun (record { conf = head.conf; ifaces = head.ifaces; pool = pool; begin = begin; events = [] }))
+    option_map
+    (λ begin. Begun (record { conf = head.conf; ifaces = head.ifaces; pool = pool; begin = begin; events = [] }))
     (after_word (codes "start ") (begin_at (length head.ifaces)) line)
 
 unfoldable pub after_start : Schedule → Line → Option Reading

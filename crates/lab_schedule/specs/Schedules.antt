@@ -57,7 +57,8 @@ heading conf ifaces = head_line ∷ (map conf_line conf ++ map interface_text if
 
 -- the lines of a schedule whose configuration has these
 abbrev pub schedule_lines : (conf : List Line) → Schedule → List Line
-schedule_lines conf schedule = heading conf schedule.ifaces ++ pool_text schedule.pool ∷ start_text schedule.begin ∷ map event_text schedule.events
+schedule_lines conf schedule =
+    heading conf schedule.ifaces ++ pool_text schedule.pool ∷ start_text schedule.begin ∷ map event_text schedule.events
 
 -- ---- which schedules there are
 
@@ -115,4 +116,5 @@ NamesBadLine text answers.NoMemory = Unit {0}
 -- A text spells one schedule, or has a bad line, and not both.
 pub record SchedulesAreOne : Type 0 where
   pub one : (text : List ℕ) (a b : Schedule) → IsSpelled SpellsSchedule text a → IsSpelled SpellsSchedule text b → a ≡ b
-  pub none_bad : (text : List ℕ) (schedule : Schedule) (line : ℕ) → IsSpelled SpellsSchedule text schedule → IsBadLine text line → ⊥
+  pub none_bad : (text : List ℕ) (schedule : Schedule) (line : ℕ) → IsSpelled SpellsSchedule text schedule
+      → IsBadLine text line → ⊥

@@ -224,8 +224,8 @@ impl LineState for ScheduleState {
 /// Why a text is no schedule.
 #[derive(Clone, Copy, PartialEq, Eq)]
 pub enum ScheduleAnswer {
-    /// The first line with which no schedule goes on, counted from 1; where the text ends before its start, the line after
-    /// its last.
+    /// The first line with which no schedule goes on, counted from 1; where the text ends before its start, the line
+    /// after its last.
     Bad { line: u64 },
     /// Memory ran out.
     NoMemory,

@@ -15,11 +15,15 @@ messages_more sent sending =
     ap reverse (flat_map-append message_in sent (sending ∷ []) ∙ ap (λ ms. flat_map message_in sent ++ ms) (append-nil (message_in sending)))
     ∙ reverse-append (flat_map message_in sent) (message_in sending)
 
-pub heard_more : (sent : List Sending) (sending : Sending) (said : Sent4) (old new : Exchanges) → client_sent sending.bytes ≡ Some said → KeepsThose (messages_of sent) old → Hears (message sending.iface.number said.said) old new
+pub heard_more : (sent : List Sending) (sending : Sending) (said : Sent4) (old new : Exchanges) → client_sent sending.bytes ≡ Some said
+    → KeepsThose (messages_of sent) old → Hears (message sending.iface.number said.said) old new
     → KeepsThose (messages_of (sent ++ sending ∷ [])) new
 heard_more sent sending said old new is keeps hears =
-    subst (λ past. KeepsThose past new) (sym (messages_more sent sending ∙ ap (λ o. reverse (message_with sending.iface.number o) ++ messages_of sent) is)) (hears (messages_of sent) keeps)
+    subst (λ past. KeepsThose past new) (sym (messages_more sent sending ∙ ap (λ o. reverse (message_with sending.iface.number o) ++ messages_of sent) is))
+    (hears (messages_of sent) keeps)
 
-pub unheard_more : (sent : List Sending) (sending : Sending) (kept : Exchanges) → client_sent sending.bytes ≡ None → KeepsThose (messages_of sent) kept → KeepsThose (messages_of (sent ++ sending ∷ [])) kept
+pub unheard_more : (sent : List Sending) (sending : Sending) (kept : Exchanges) → client_sent sending.bytes ≡ None → KeepsThose (messages_of sent) kept
+    → KeepsThose (messages_of (sent ++ sending ∷ [])) kept
 unheard_more sent sending kept is keeps =
-    subst (λ past. KeepsThose past kept) (sym (messages_more sent sending ∙ ap (λ o. reverse (message_with sending.iface.number o) ++ messages_of sent) is)) keeps
+    subst (λ past. KeepsThose past kept)
+    (sym (messages_more sent sending ∙ ap (λ o. reverse (message_with sending.iface.number o) ++ messages_of sent) is)) keeps

@@ -29,10 +29,12 @@ numbered_map f (suc before) frames = slice_get-map f frames before
 
 -- ---- the frame that the peer hears
 
-pub heard_some : (lab : Lab) (now : ℕ) (frame : Option Sending) (bytes : List ℕ) → Some bytes ≡ option_map (λ sending. sending.bytes) frame → peer_heard now frame lab ≡ peer_goes now (hears now bytes lab.peer) lab
+pub heard_some : (lab : Lab) (now : ℕ) (frame : Option Sending) (bytes : List ℕ) → Some bytes ≡ option_map (λ sending. sending.bytes) frame
+    → peer_heard now frame lab ≡ peer_goes now (hears now bytes lab.peer) lab
 heard_some lab now None bytes is = cc
 heard_some lab now (Some sending) bytes is = let same : sending.bytes ≡ bytes = cc in ap (λ b. peer_goes now (hears now b lab.peer) lab) same
 
-pub heard_none : (lab : Lab) (now : ℕ) (frame : Option Sending) → None ≡ option_map (λ sending. sending.bytes) frame → peer_heard now frame lab ≡ peer_heard now None lab
+pub heard_none : (lab : Lab) (now : ℕ) (frame : Option Sending) → None ≡ option_map (λ sending. sending.bytes) frame
+    → peer_heard now frame lab ≡ peer_heard now None lab
 heard_none lab now None is = refl
 heard_none lab now (Some sending) is = cc

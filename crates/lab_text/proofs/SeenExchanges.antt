@@ -39,7 +39,8 @@ fresh false b e = refl
 abbrev pub TellsApart : (Exchange → Exchange → Ordering) → Type 0
 TellsApart cmp = (a b : Exchange) → is_at (cmp a) b ≡ is_same a b
 
-has_same : (cmp : Exchange → Exchange → Ordering) → TellsApart cmp → (keys : List Exchange) (q : Exchange) → list_any (is_at (cmp q)) keys ≡ list_any (is_same q) keys
+has_same : (cmp : Exchange → Exchange → Ordering) → TellsApart cmp → (keys : List Exchange) (q : Exchange)
+    → list_any (is_at (cmp q)) keys ≡ list_any (is_same q) keys
 has_same cmp tells [] q = refl
 has_same cmp tells (key ∷ keys) q = ap (λ b. b || list_any (is_at (cmp q)) keys) (tells q key) ∙ ap (λ b. is_same q key || b) (has_same cmp tells keys q)
 
@@ -48,7 +49,8 @@ pub sees_new : (cmp : Exchange → Exchange → Ordering) → TellsApart cmp →
 sees_new cmp tells old new exchange lacks updates same = λ those saw. record {
   has = λ q.
       sym (has_same cmp tells new.keys.keys q) ∙ updates q ∙ either (is_at (cmp exchange) q) (contains cmp old.keys q)
-      ∙ ap (λ b. b || contains cmp old.keys q) (tells exchange q ∙ same_symm exchange q) ∙ ap (λ b. is_same q exchange || b) (has_same cmp tells old.keys.keys q ∙ saw.has q);
+      ∙ ap (λ b. b || contains cmp old.keys q) (tells exchange q ∙ same_symm exchange q)
+      ∙ ap (λ b. is_same q exchange || b) (has_same cmp tells old.keys.keys q ∙ saw.has q);
   unlike =
       ap are_unlike same ∙ saw.unlike
       ∙ sym (fresh (list_any (is_same exchange) those) (all_unlike those) (sym (saw.has exchange) ∙ sym (has_same cmp tells old.keys.keys exchange) ∙ lacks));

@@ -24,7 +24,8 @@ Sees exchange old new = (those : List Exchange) → SawThose those old → SawTh
 
 -- one more is seen, or none
 abbrev pub SeesIf : Bool → Exchange → (old new : Seen) → Type 0
-SeesIf more exchange old new = (those : List Exchange) → SawThose those old → SawThose (if more then exchange ∷ those else those) new
+SeesIf more exchange old new =
+    (those : List Exchange) → SawThose those old → SawThose (if more then exchange ∷ those else those) new
 
 -- it is that of these messages, of which the last one comes first
 pub record KeepsThose (past : List Message) (kept : Exchanges) : Type 0 where

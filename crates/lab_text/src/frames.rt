@@ -34,7 +34,8 @@ impl Model for Frames {
 
     ghost Value = { FramesContent };
 
-    ghost view = { λ frames. record { sent = map sending_of frames.sent.items; made = map (λ frame. frame.items) frames.made.items } };
+    ghost view = { λ frames.
+        record { sent = map sending_of frames.sent.items; made = map (λ frame. frame.items) frames.made.items } };
 
     ghost invariant = { λ frames. KeepsThose (messages_of (map sending_of frames.sent.items)) frames.exchanges };
 }
@@ -77,7 +78,8 @@ impl Frames {
     /// The bytes of the clients' frame of a number.
     #[tactic(auto, using(crate::proofs::NumberedFrames::numbered_map))]
     pub fn sent(&self, number: u64) -> Option<&[u8]>
-        ensures { option_map (λ bytes. bytes.now) result ≡ option_map (λ sending. sending.bytes) (numbered number self.now.sent) }
+        ensures { option_map (λ bytes. bytes.now) result
+            ≡ option_map (λ sending. sending.bytes) (numbered number self.now.sent) }
     {
         match frame_of(&self.sent, number) {
             Some(sending) => Some(&sending.bytes),
@@ -134,7 +136,8 @@ impl Frames {
     ) -> Result<Frames, NoMemory>
         requires { IsOnInterface (sending_of sending) }
         ensures frames { IfOk result (λ frames. frames ≡ record self { sent = self.sent ++ sending_of sending ∷ [] }) }
-        ensures says { OnOk result (Says (ClientFrame (length self.sent + 1) sending.bytes.items ∷ []) text.old.items text.new.items) }
+        ensures says { OnOk result
+            (Says (ClientFrame (length self.sent + 1) sending.bytes.items ∷ []) text.old.items text.new.items) }
     {
         let number = self.sent.len() as u64 + 1;
         append_line(b"client ", &(number, Hex(&sending.bytes)), text)?;
@@ -150,7 +153,8 @@ impl Frames {
     ) -> Result<Frames, NoMemory>
         requires { AllByRecursion IsOnInterface (map sending_of sends.items) }
         ensures frames { IfOk result (λ frames. frames ≡ record self { sent = self.sent ++ map sending_of sends.items }) }
-        ensures says { OnOk result (Says (client_lines (length self.sent) (map sending_of sends.items)) text.old.items text.new.items) }
+        ensures says { OnOk result
+            (Says (client_lines (length self.sent) (map sending_of sends.items)) text.old.items text.new.items) }
     {
         let mut frames = self;
         for sending in sends {
@@ -161,8 +165,13 @@ impl Frames {
 
     /// With the frame that the peer makes, and its line.
     pub fn make(self, made: Option<Vec<u8>>, text: &mut Vec<u8>) -> Result<Frames, NoMemory>
-        ensures frames { IfOk result (λ frames. frames ≡ record self { made = self.made ++ option_to_list (option_map (λ frame. frame.items) made) }) }
-        ensures says { OnOk result (Says (peer_lines (length self.made) (option_map (λ frame. frame.items) made)) text.old.items text.new.items) }
+        ensures frames { IfOk result
+            (λ frames. frames
+            ≡ record self { made = self.made ++ option_to_list (option_map (λ frame. frame.items) made) }) }
+        ensures says { OnOk result
+            (Says
+            (peer_lines (length self.made) (option_map (λ frame. frame.items) made)) text.old.items
+            text.new.items) }
     {
         let Some(bytes) = made else {
             return Ok(self);

@@ -43,7 +43,14 @@ impl Model for Lab {
 
     ghost Value = { model.Lab };
 
-    ghost view = { λ lab. record { client = lab.core; peer = lab.peer; sent = lab.frames.sent; made = lab.frames.made; clock = lab.clock } };
+    ghost view = { λ lab.
+        record {
+          client = lab.core;
+          peer = lab.peer;
+          sent = lab.frames.sent;
+          made = lab.frames.made;
+          clock = lab.clock;
+        } };
 
     ghost invariant = { λ lab. lab.clock < 10 ^ 15 };
 }
@@ -84,7 +91,10 @@ impl Lab {
     ) -> Result<Lab, NoMemory>
         requires { AreManaged managed.now }
         ensures lab { IfOk result (λ lab. lab ≡ (lab_opened managed.now (schedule_of schedule.now)).lab) }
-        ensures says { OnOk result (Says (lines_of (no_lab schedule.now.pool) (lab_opened managed.now (schedule_of schedule.now))) text.old.items text.new.items) }
+        ensures says { OnOk result
+            (Says
+            (lines_of (no_lab schedule.now.pool) (lab_opened managed.now (schedule_of schedule.now)))
+            text.old.items text.new.items) }
     {
         let beginnings = beginnings(alloc, managed)?;
         let opened = core_open(alloc, beginnings, &schedule.ifaces, schedule.begin)?;
@@ -118,8 +128,17 @@ impl Lab {
         input: TurnInput<'_>,
         text: &mut Vec<u8>,
     ) -> Result<Lab, NoMemory>
-        ensures lab { IfOk result (λ lab. lab ≡ (clients_turned (turn_with (raised at self) salt (event_of input.entry) (bytes_of input.entry)) self).lab) }
-        ensures says { OnOk result (Says (lines_of self (clients_turned (turn_with (raised at self) salt (event_of input.entry) (bytes_of input.entry)) self)) text.old.items text.new.items) }
+        ensures lab { IfOk result
+            (λ lab. lab
+            ≡
+            (clients_turned
+            (turn_with (raised at self) salt (event_of input.entry) (bytes_of input.entry)) self).lab) }
+        ensures says { OnOk result
+            (Says
+            (lines_of self
+            (clients_turned
+            (turn_with (raised at self) salt (event_of input.entry) (bytes_of input.entry)) self))
+            text.old.items text.new.items) }
     {
         let Lab {
             core,
@@ -152,7 +171,10 @@ impl Lab {
     /// The peer's frame of a number comes in on an interface.
     fn give(self, alloc: Global, given: Given, text: &mut Vec<u8>) -> Result<Lab, NoMemory>
         ensures lab { IfOk result (λ lab. lab ≡ (lab_step (Give given.at given.salt given.iface given.frame) self).lab) }
-        ensures says { OnOk result (Says (lines_of self (lab_step (Give given.at given.salt given.iface given.frame) self)) text.old.items text.new.items) }
+        ensures says { OnOk result
+            (Says
+            (lines_of self (lab_step (Give given.at given.salt given.iface given.frame) self)) text.old.items
+            text.new.items) }
     {
         match self.frames.made(given.frame) {
             Some(frame) => {
@@ -175,8 +197,12 @@ impl Lab {
         bytes: &[u8],
         text: &mut Vec<u8>,
     ) -> Result<Lab, NoMemory>
-        ensures lab { IfOk result (λ lab. lab ≡ (peer_goes (raised at self) (hears (raised at self) bytes.now self.peer) self).lab) }
-        ensures says { OnOk result (Says (lines_of self (peer_goes (raised at self) (hears (raised at self) bytes.now self.peer) self)) text.old.items text.new.items) }
+        ensures lab { IfOk result
+            (λ lab. lab ≡ (peer_goes (raised at self) (hears (raised at self) bytes.now self.peer) self).lab) }
+        ensures says { OnOk result
+            (Says
+            (lines_of self (peer_goes (raised at self) (hears (raised at self) bytes.now self.peer) self))
+            text.old.items text.new.items) }
     {
         let Lab {
             core,
@@ -202,7 +228,8 @@ impl Lab {
     /// The peer hears nothing.
     fn hear_nothing(self, alloc: Global, at: u64, text: &mut Vec<u8>) -> Result<Lab, NoMemory>
         ensures lab { IfOk result (λ lab. lab ≡ (peer_heard (raised at self) None self).lab) }
-        ensures says { OnOk result (Says (lines_of self (peer_heard (raised at self) None self)) text.old.items text.new.items) }
+        ensures says { OnOk result
+            (Says (lines_of self (peer_heard (raised at self) None self)) text.old.items text.new.items) }
     {
         let Lab {
             core,

@@ -31,7 +31,8 @@ fn beginning(alloc: Global, first: Mac, managed: &Managed) -> Result<Beginning, 
 fn beginnings_by(alloc: Global, first: Mac, managed: &[Managed]) -> Result<Vec<Beginning>, NoMemory>
     requires first { FitsMac first }
     requires managed { AreManaged managed.now }
-    ensures are { IfOk result (λ all. map beginning_of all.items ≡ map (model.beginning (link_layer_duid first)) managed.now) }
+    ensures are { IfOk result
+        (λ all. map beginning_of all.items ≡ map (model.beginning (link_layer_duid first)) managed.now) }
     ensures fit { IfOk result (λ all. AreBeginnings (map beginning_of all.items)) }
 {
     let mut all = Vec::new(alloc);

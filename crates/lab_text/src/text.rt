@@ -35,9 +35,9 @@ fn live_on(alloc: Global, lab: Lab, events: &[LabEvent], text: &mut Vec<u8>) -> 
     say_xids(lab.xids(), text)
 }
 
-/// The text of the schedule's lab: for the start and for each line after it the moment, the frames that are sent and the leases that
-/// are held; and last whether a client used a transaction number again. `managed` are those of its interfaces that the clients
-/// manage. Want of memory alone is an error.
+/// The text of the schedule's lab: for the start and for each line after it the moment, the frames that are sent and
+/// the leases that are held; and last whether a client used a transaction number again. `managed` are those of its
+/// interfaces that the clients manage. Want of memory alone is an error.
 #[tactic(auto, unfolding(lab_model::specs::LabLines::lab_text))]
 pub fn lab_text(
     alloc: Global,

@@ -1,5 +1,5 @@
--- That the basis of an item ends with what takes the item away (RFC 8415, sections 18.2.7, 18.2.8, 18.2.10.1 and 18.2.12), in
--- other words than the basis has.
+-- That the basis of an item ends with what takes the item away (RFC 8415, sections 18.2.7, 18.2.8, 18.2.10.1 and
+-- 18.2.12), in other words than the basis has.
 use Rattle.std.specs.Prelude.{◌≡◌, ℕ, true, false, List, ◌∷◌, ◌++◌, Some}
 use Rattle.std.specs.List.{Contains}
 use Rattle.net_types.specs.declared.address.Net6.{Net6}
@@ -28,7 +28,8 @@ NamesNot site ask net e past = Names site ask net e past → ⊥
 
 -- After a turn that takes it away an item has no basis, unless a good Reply names it later.
 abbrev pub EndsBy : (Takes : ItemWord) → Type 0
-EndsBy Takes = (site : Site) (ask : IaAsk) (net : Net6) (now : ℕ) (past later : List Entry) (e : Entry) (earlier : List Entry)
+EndsBy Takes =
+    (site : Site) (ask : IaAsk) (net : Net6) (now : ℕ) (past later : List Entry) (e : Entry) (earlier : List Entry)
     → past ≡ later ++ e ∷ earlier → Takes site ask net e earlier → EachAfter (NamesNot site ask net) later (e ∷ earlier)
     → ItemBasis site ask net now past → ⊥
 

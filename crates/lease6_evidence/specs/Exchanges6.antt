@@ -61,7 +61,8 @@ abbrev pub exchange_by : SaidContent → Exchange
 exchange_by said = record { xid = said.xid; servers = option_to_list said.server; solicits = is_solicit said.kind }
 
 abbrev pub opens6 : SaidContent → (count : ℕ) → Seen6
-opens6 said count = record { count = count + 1; current = Some (record { number = count + 1; exchange = exchange_by said }) }
+opens6 said count =
+    record { count = count + 1; current = Some (record { number = count + 1; exchange = exchange_by said }) }
 
 -- one more message of an exchange
 abbrev pub goes_on : SaidContent → Exchange → Exchange
@@ -80,15 +81,18 @@ joined6 said seen open_one = record {
 -- A message with the transaction id of the open exchange goes on with it. Any other one opens an exchange.
 abbrev pub asks : SaidContent → Seen6 → (current : Option Numbered6) → Seen6
 asks said seen None = opens6 said seen.count
-asks said seen (Some open_one) = if said.xid == open_one.exchange.xid then joined6 said seen open_one else opens6 said seen.count
+asks said seen (Some open_one) =
+    if said.xid == open_one.exchange.xid then joined6 said seen open_one else opens6 said seen.count
 
 abbrev pub closes6 : Seen6 → Seen6
 closes6 seen = record { count = seen.count; current = None }
 
--- A frame that spells no DHCPv6 message of the interface changes nothing; one that asks for no Reply closes the exchange.
+-- A frame that spells no DHCPv6 message of the interface changes nothing; one that asks for no Reply closes the
+-- exchange.
 abbrev pub shows6 : Option Sent6 → Seen6 → Seen6
 shows6 None seen = seen
-shows6 (Some sent) seen = if asks_reply sent.said.kind sent.said.rapid then asks sent.said seen seen.current else closes6 seen
+shows6 (Some sent) seen =
+    if asks_reply sent.said.kind sent.said.rapid then asks sent.said seen seen.current else closes6 seen
 
 abbrev pub show6 : List (Option Sent6) → Seen6 → Seen6
 show6 [] seen = seen

@@ -1,5 +1,5 @@
--- An example: an interface solicits, is advertised 2001:db8::7 and 2001:db8:0:100::/56, requests them, and holds them for an hour.
--- Another interface has a share of the prefix.
+-- An example: an interface solicits, is advertised 2001:db8::7 and 2001:db8:0:100::/56, requests them, and holds them
+-- for an hour. Another interface has a share of the prefix.
 use Rattle.std.specs.Prelude.{ℕ, true, false, List, [], ◌∷◌, ◌++◌, None, Some}
 use Rattle.net_types.specs.declared.address.Net6.{Net6}
 use Rattle.net_types.specs.declared.interface.IfIndex.{IfIndex}
@@ -72,7 +72,8 @@ servers_address = 0xff ∷ 2 ∷ 0 ∷ 0 ∷ 0 ∷ 0 ∷ 0 ∷ 0 ∷ 0 ∷ 0 ∷
 -- a message of the client, of so many bytes with UDP's header, and the checksum's two bytes
 abbrev pub from_client : (len high low : ℕ) → (message : List ℕ) → List ℕ
 from_client len high low message =
-    (0x33 ∷ 0x33 ∷ 0 ∷ 1 ∷ 0 ∷ 2 ∷ 2 ∷ 0 ∷ 0 ∷ 0 ∷ 0 ∷ 1 ∷ 0x86 ∷ 0xdd ∷ []) ++ (0x60 ∷ 0 ∷ 0 ∷ 0 ∷ 0 ∷ len ∷ 17 ∷ 64 ∷ [])
+    (0x33 ∷ 0x33 ∷ 0 ∷ 1 ∷ 0 ∷ 2 ∷ 2 ∷ 0 ∷ 0 ∷ 0 ∷ 0 ∷ 1 ∷ 0x86 ∷ 0xdd ∷ [])
+    ++ (0x60 ∷ 0 ∷ 0 ∷ 0 ∷ 0 ∷ len ∷ 17 ∷ 64 ∷ [])
     ++ client_address ++ servers_address ++ (2 ∷ 0x22 ∷ 2 ∷ 0x23 ∷ 0 ∷ len ∷ high ∷ low ∷ []) ++ message
 
 -- so one of the server
@@ -130,7 +131,8 @@ ias_given =
 
 abbrev pub solicit : List ℕ
 solicit =
-    (1 ∷ 0 ∷ 0 ∷ 1 ∷ []) ++ client_option ++ elapsed_option ++ addresses_asked 12 [] ++ prefixes_asked 12 [] ++ wanted_option
+    (1 ∷ 0 ∷ 0 ∷ 1 ∷ []) ++ client_option ++ elapsed_option ++ addresses_asked 12 [] ++ prefixes_asked 12 []
+    ++ wanted_option
 
 -- its preference is 255, so that it is taken at once
 abbrev pub advertise : List ℕ
@@ -138,7 +140,8 @@ advertise = (2 ∷ 0 ∷ 0 ∷ 1 ∷ []) ++ client_option ++ server_option ++ (0
 
 abbrev pub request : List ℕ
 request =
-    (3 ∷ 0 ∷ 0 ∷ 2 ∷ []) ++ client_option ++ server_option ++ elapsed_option ++ addresses_asked 40 (address_option no_times)
+    (3 ∷ 0 ∷ 0 ∷ 2 ∷ []) ++ client_option ++ server_option ++ elapsed_option
+    ++ addresses_asked 40 (address_option no_times)
     ++ prefixes_asked 41 (prefix_option no_times) ++ wanted_option
 
 abbrev pub reply : List ℕ
@@ -157,7 +160,8 @@ abbrev pub offers : List ℕ → List Offer
 offers bytes = record { iface = 1; bytes = bytes; taken = true } ∷ []
 
 abbrev pub met : ℕ → Event → List ℕ → List Offer → Met
-met at event bytes offers = record { turn = record { at = at; salt = 0; unsent = 0; event = event; bytes = bytes }; offers = offers }
+met at event bytes offers =
+    record { turn = record { at = at; salt = 0; unsent = 0; event = event; bytes = bytes }; offers = offers }
 
 -- SOLICIT; the Advertise, and REQUEST; the Reply. The newest is the first.
 abbrev pub three_turns : List Met

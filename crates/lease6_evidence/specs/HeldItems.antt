@@ -23,7 +23,8 @@ abbrev pub ItemRests : Site → IaAsk → Net6 → (now : ℕ) → List Entry �
 ItemRests site ask net now past = ItemBasis site ask net now past ⊎ KeptBasis6 site ask net now past
 
 -- an item of an IA that is asked for, with such a basis
-pub record HasItemBasis (Kind : Site → IaAsk → Net6 → (now : ℕ) → List Entry → Type 0) (site : Site) (ia : IaLeaseContent)
+pub record HasItemBasis (Kind : Site → IaAsk → Net6 → (now : ℕ) → List Entry → Type 0) (site : Site)
+    (ia : IaLeaseContent)
     (item : Item6) (past : List Entry) : Type 0 where
   pub ask : IaAsk
   pub asked : Contains (asks_at site) ask
@@ -34,7 +35,8 @@ pub record HasItemBasis (Kind : Site → IaAsk → Net6 → (now : ℕ) → List
 abbrev pub ItemHasBasis : Site → IaLeaseContent → Item6 → List Entry → Type 0
 ItemHasBasis site ia item past = HasItemBasis ItemRests site ia item past
 
--- Each item that an interface holds after an opening and some turns has its basis in them, whatever lease was kept before.
+-- Each item that an interface holds after an opening and some turns has its basis in them, whatever lease was kept
+-- before.
 abbrev pub HeldItemsHaveBasis : Type 0
 HeldItemsHaveBasis = (own : List Mac) (beginning : Beginning) (opening : Opening) (mets : List Met)
     (lease : Lease6Content) (ia : IaLeaseContent) (item : Item6)
@@ -53,7 +55,8 @@ PlainItemsAreGiven = (site : Site) (ia : IaLeaseContent) (item : Item6) (past : 
 
 -- So after the opening such an interface holds no item, whatever was kept.
 abbrev pub BeginsWithoutItems : Type 0
-BeginsWithoutItems = (own : List Mac) (beginning : Beginning) (opening : Opening) → IsPlain6 (site_of own beginning opening)
+BeginsWithoutItems =
+    (own : List Mac) (beginning : Beginning) (opening : Opening) → IsPlain6 (site_of own beginning opening)
     → held_of (opens beginning opening).iface.dhcp6 ≡ None
 
 -- Each item that another one holds then is one of the kept lease.

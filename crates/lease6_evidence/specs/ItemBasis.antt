@@ -43,12 +43,13 @@ NotContested index Na ip (Duplicate other addr) = index ≡ other → addr ≢ i
 NotContested index Na ip _ = Unit {0}
 NotContested index Pd ip event = Unit {0}
 
--- The carrier stays, nothing is given back, no stop comes, nobody else is reported to use the address, and no first Reply of an
--- exchange revises the item.
+-- The carrier stays, nothing is given back, no stop comes, nobody else is reported to use the address, and no first
+-- Reply of an exchange revises the item.
 pub record Leaves (site : Site) (ask : IaAsk) (net : Net6) (e : Entry) (past : List Entry) : Type 0 where
   pub stays : StaysOn site e past
   pub own : NotContested (index_at site) ask.kind net.ip e.event
-  pub unrevised : (opened : Numbered6) (message : Content6) → FirstReply site opened message e past → Revises ask net message → ⊥
+  pub unrevised : (opened : Numbered6) (message : Content6) → FirstReply site opened message e past
+      → Revises ask net message → ⊥
 
 -- ---- the basis
 

@@ -49,8 +49,8 @@ pub record StartsAsking (site : Site) (xid now : ℕ) (e : Entry) (past : List E
 abbrev pub HearsNoReply : Site → Entry → List Entry → Type 0
 HearsNoReply site e past = (opened : Numbered6) (message : Content6) → GoodReply site opened message e past → ⊥
 
--- Each of its DHCPv6 messages of this life is a REBIND of one exchange, which began less than ten seconds ago and has had
--- no good Reply.
+-- Each of its DHCPv6 messages of this life is a REBIND of one exchange, which began less than ten seconds ago and has
+-- had no good Reply.
 pub record IsAskingAgain (site : Site) (now : ℕ) (past : List Entry) : Type 0 where
   pub xid : ℕ
   pub since : Since (RebindsAlone site xid) (StartsAsking site xid now) past
@@ -69,8 +69,8 @@ pub record HasLiveItem (lease : Lease6Content) (ask : IaAsk) (net : Net6) (now :
   pub is_item : item.net ≡ net
   pub live : is_live now item ≡ true
 
--- `persistent` is in force, and the lease that was kept for the interface tells its origin and has the item. The carrier
--- is up and never went, and neither a release nor a stop came. Servers are being asked for the lease again.
+-- `persistent` is in force, and the lease that was kept for the interface tells its origin and has the item. The
+-- carrier is up and never went, and neither a release nor a stop came. Servers are being asked for the lease again.
 pub record KeptBasis6 (site : Site) (ask : IaAsk) (net : Net6) (now : ℕ) (past : List Entry) : Type 0 where
   pub persistent : site.managed.conf.persistent ≡ true
   pub lease : Lease6Content

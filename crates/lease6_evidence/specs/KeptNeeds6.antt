@@ -45,7 +45,8 @@ pub record IsItemOf (lease : Lease6Content) (ask : IaAsk) (item : Item6) : Type 
 
 -- the lease that was kept hasn't the item
 abbrev pub NeedsKeptItem : Type 0
-NeedsKeptItem = KeptGivesNothing (λ site ask net now past. (lease : Lease6Content) (item : Item6) → site.kept6 ≡ Some lease
+NeedsKeptItem =
+    KeptGivesNothing (λ site ask net now past. (lease : Lease6Content) (item : Item6) → site.kept6 ≡ Some lease
     → IsItemOf lease ask item → item.net ≢ net)
 
 -- a moment that has come
@@ -56,14 +57,16 @@ pub record HasCome (until : Option ℕ) (now : ℕ) : Type 0 where
 
 -- the item's valid lifetime is over
 abbrev pub NeedsLiveItem : Type 0
-NeedsLiveItem = KeptGivesNothing (λ site ask net now past. (lease : Lease6Content) (item : Item6) → site.kept6 ≡ Some lease
+NeedsLiveItem =
+    KeptGivesNothing (λ site ask net now past. (lease : Lease6Content) (item : Item6) → site.kept6 ≡ Some lease
     → IsItemOf lease ask item → item.net ≡ net → HasCome item.valid now)
 
 -- ---- what came
 
 -- After a turn that takes it away it has none, whatever comes later.
 abbrev pub EndsKeptBy : (Takes : ItemWord) → Type 0
-EndsKeptBy Takes = (site : Site) (ask : IaAsk) (net : Net6) (now : ℕ) (past later : List Entry) (e : Entry) (earlier : List Entry)
+EndsKeptBy Takes =
+    (site : Site) (ask : IaAsk) (net : Net6) (now : ℕ) (past later : List Entry) (e : Entry) (earlier : List Entry)
     → past ≡ later ++ e ∷ earlier → Takes site ask net e earlier → KeptBasis6 site ask net now past → ⊥
 
 -- a good Reply came, whatever it says

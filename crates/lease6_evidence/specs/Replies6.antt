@@ -19,7 +19,8 @@ use Rattle.lease6_evidence.specs.Exchanges6.{Exchange, Numbered6, seen6_in}
 
 -- the server's message that came in on the interface
 abbrev pub message6_on : Site → Event → List ℕ → Option HeardMessage6
-message6_on site (Frame other len) bytes = if index_at site == other then heard6_in site.managed.spec.mac bytes else None
+message6_on site (Frame other len) bytes =
+    if index_at site == other then heard6_in site.managed.spec.mac bytes else None
 message6_on site _ bytes = None
 
 abbrev pub message6_at : Site → Entry → Option Content6
@@ -42,11 +43,13 @@ is_from servers (Some server) = is_duid server && list_all (λ named. bytes_eq s
 -- (section 21.14).
 abbrev pub answers : Site → Exchange → Content6 → Bool
 answers site exchange message =
-    is_reply message.kind && (message.xid == exchange.xid) && has_bytes message.client site.duid && is_from exchange.servers message.server
+    is_reply message.kind && (message.xid == exchange.xid) && has_bytes message.client site.duid
+    && is_from exchange.servers message.server
     && (message.rapid || not exchange.solicits)
 
 -- such a Reply in the open exchange, which serves what is asked for
-pub record GoodReply (site : Site) (opened : Numbered6) (message : Content6) (e : Entry) (past : List Entry) : Type 0 where
+pub record GoodReply (site : Site) (opened : Numbered6) (message : Content6) (e : Entry)
+    (past : List Entry) : Type 0 where
   pub is_open : (seen6_in site (e ∷ past)).current ≡ Some opened
   pub came : message6_at site e ≡ Some message
   pub good : answers site opened.exchange message ≡ true
@@ -54,9 +57,11 @@ pub record GoodReply (site : Site) (opened : Numbered6) (message : Content6) (e 
 
 -- none in the exchange of a number
 abbrev pub NoReply : Site → (number : ℕ) → Entry → List Entry → Type 0
-NoReply site number e past = (opened : Numbered6) (message : Content6) → GoodReply site opened message e past → opened.number ≡ number → ⊥
+NoReply site number e past =
+    (opened : Numbered6) (message : Content6) → GoodReply site opened message e past → opened.number ≡ number → ⊥
 
 -- the first one in its exchange
-pub record FirstReply (site : Site) (opened : Numbered6) (message : Content6) (e : Entry) (past : List Entry) : Type 0 where
+pub record FirstReply (site : Site) (opened : Numbered6) (message : Content6) (e : Entry)
+    (past : List Entry) : Type 0 where
   pub good : GoodReply site opened message e past
   pub first : Always (NoReply site opened.number) past

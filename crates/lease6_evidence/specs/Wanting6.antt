@@ -1,5 +1,5 @@
--- What the basis of an item can't do without (RFC 8415, sections 16.10, 18.2.1, 18.2.10 and 21.4), in other words than the basis
--- has.
+-- What the basis of an item can't do without (RFC 8415, sections 16.10, 18.2.1, 18.2.10 and 21.4), in other words than
+-- the basis has.
 use Rattle.std.specs.Prelude.{◌≡◌, ◌≢◌, ℕ, true, false, ◌⊎◌, List, ◌∷◌, ◌++◌, Some}
 use Rattle.std.specs.List.{AllByRecursion, Contains}
 use Rattle.machine.specs.Since.{Always}
@@ -61,11 +61,14 @@ pub record IsHasty (opened : Numbered6) (message : Content6) : Type 0 where
   pub solicits : opened.exchange.solicits ≡ true
   pub plain : message.rapid ≡ false
 
--- It is an Advertise, or of no server, or of another one than the exchange names, or too hasty, or serves nothing that is asked for.
+-- It is an Advertise, or of no server, or of another one than the exchange names, or too hasty, or serves nothing that
+-- is asked for.
 abbrev pub IsIdle6 : Site → Numbered6 → Content6 → Type 0
 IsIdle6 site opened message =
     (message.kind ≡ Advertise)
-    ⊎ (IsNameless message ⊎ (IsOfOther opened message ⊎ (IsHasty opened message ⊎ (serves (asks_at site) message ≡ false))))
+    ⊎
+    (IsNameless message
+    ⊎ (IsOfOther opened message ⊎ (IsHasty opened message ⊎ (serves (asks_at site) message ≡ false))))
 
 -- Each message that came in is such a one in the exchange that was open.
 abbrev pub HearsIdle6 : Site → Entry → List Entry → Type 0

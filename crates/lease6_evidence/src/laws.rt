@@ -14,20 +14,22 @@ ghost use Rattle.lease6_evidence.specs.Laws6.{EndsWithValid, ForeignGivesNothing
 ghost use Rattle.lease6_evidence.specs.OwnFrames6.{OwnFrames6Alone};
 ghost use Rattle.lease6_evidence.specs.Wanting6.{AddressesAreAsked, FirstAloneGives, GivesNothing, HearsIdle6, HeldItemsAreAsked, IsSilent6, NeedsItsName};
 
-/// Law: each item that an interface holds after its opening and some turns, with any outcomes of its frames, has its basis in
-/// what they showed: a Reply in an exchange of its own gave it, its valid lifetime isn't over, and nothing took it away since
-/// (RFC 8415, section 18.2.10); or, with `persistent`, it is one of the kept lease, which is asked for again (section 18.2.12).
+/// Law: each item that an interface holds after its opening and some turns, with any outcomes of its frames, has its
+/// basis in what they showed: a Reply in an exchange of its own gave it, its valid lifetime isn't over, and nothing
+/// took it away since (RFC 8415, section 18.2.10); or, with `persistent`, it is one of the kept lease, which is asked
+/// for again (section 18.2.12).
 pub fn held_items_have_a_basis()
     ensures { HeldItemsHaveBasis }
 {}
 
-/// Law: where `persistent` isn't in force, or the kept lease doesn't tell its origin, a Reply gave each item that has its basis.
+/// Law: where `persistent` isn't in force, or the kept lease doesn't tell its origin, a Reply gave each item that has
+/// its basis.
 pub fn plain_items_are_given()
     ensures { PlainItemsAreGiven }
 {}
 
-/// Law: so after the opening no such interface holds an item, whatever was kept for it: a kept lease is held only after an
-/// exchange of this life (RFC 8415, section 18.2.12).
+/// Law: so after the opening no such interface holds an item, whatever was kept for it: a kept lease is held only after
+/// an exchange of this life (RFC 8415, section 18.2.12).
 pub fn kept_items_are_not_held_at_first()
     ensures { BeginsWithoutItems }
 {}
@@ -113,7 +115,8 @@ pub fn foreign_replies_give_no_items()
     ensures { ForeignGivesNothing6 }
 {}
 
-/// Law: none has one after the interface lost its carrier, until a good Reply names it again (RFC 8415, section 18.2.12).
+/// Law: none has one after the interface lost its carrier, until a good Reply names it again (RFC 8415, section
+/// 18.2.12).
 pub fn items_end_with_the_carrier()
     ensures { EndsBy LosesCarrier }
 {}
@@ -133,7 +136,8 @@ pub fn items_end_with_a_duplicate()
     ensures { EndsBy IsUsedTwice }
 {}
 
-/// Law: nor after the first good Reply of an exchange named it with a valid lifetime of 0 (RFC 8415, section 18.2.10.1).
+/// Law: nor after the first good Reply of an exchange named it with a valid lifetime of 0 (RFC 8415, section
+/// 18.2.10.1).
 pub fn items_end_when_withdrawn()
     ensures { EndsBy IsWithdrawn }
 {}
@@ -148,8 +152,9 @@ pub fn unasked_replies_give_no_items()
     ensures { GivesNothing IsSilent6 }
 {}
 
-/// Law: an Advertise gives none, nor does a message of no server or of another one than was asked, a Reply to a SOLICIT that
-/// doesn't say that it answers one, or one that serves nothing that is asked for (RFC 8415, sections 16.10, 18.2.1 and 18.2.10).
+/// Law: an Advertise gives none, nor does a message of no server or of another one than was asked, a Reply to a SOLICIT
+/// that doesn't say that it answers one, or one that serves nothing that is asked for (RFC 8415, sections 16.10, 18.2.1
+/// and 18.2.10).
 pub fn idle_messages_give_no_items()
     ensures { GivesNothing HearsIdle6 }
 {}
@@ -159,13 +164,14 @@ pub fn first_replies_alone_give_items()
     ensures { FirstAloneGives }
 {}
 
-/// Law: no item has a basis where no message that came in has it among what counts of its IA (RFC 8415, section 18.2.10.1).
+/// Law: no item has a basis where no message that came in has it among what counts of its IA (RFC 8415, section
+/// 18.2.10.1).
 pub fn items_are_named()
     ensures { NeedsItsName }
 {}
 
-/// Law: no address has one as that of an IA_NA where no good Reply named it for one that the interface asks for (RFC 8415,
-/// section 21.4).
+/// Law: no address has one as that of an IA_NA where no good Reply named it for one that the interface asks for (RFC
+/// 8415, section 21.4).
 pub fn addresses_are_asked_for()
     ensures { AddressesAreAsked }
 {}
@@ -175,19 +181,21 @@ pub fn held_items_are_asked_for()
     ensures { HeldItemsAreAsked }
 {}
 
-/// Law: a life in which SOLICIT, an Advertise, REQUEST and a Reply give an interface an address and a prefix, which have their
-/// basis.
+/// Law: a life in which SOLICIT, an Advertise, REQUEST and a Reply give an interface an address and a prefix, which
+/// have their basis.
 pub fn four_messages_give_a_lease()
     ensures lived { IsLived (client_mac ∷ []) beginning opening three_turns }
     ensures held { held_of (iface_after (client_mac ∷ []) beginning opening three_turns).dhcp6 ≡ Some lease }
-    ensures address { AddressBasis (site_of (client_mac ∷ []) beginning opening) (V6 granted) 2000 (shown opening three_turns) }
-    ensures prefix { HasItemBasis ItemBasis (site_of (client_mac ∷ []) beginning opening) prefixes prefix (shown opening three_turns) }
+    ensures address { AddressBasis (site_of (client_mac ∷ []) beginning opening) (V6 granted) 2000
+        (shown opening three_turns) }
+    ensures prefix { HasItemBasis ItemBasis (site_of (client_mac ∷ []) beginning opening) prefixes prefix
+        (shown opening three_turns) }
 {}
 
-/// Law: what is read as the client's own message is a frame that it may say, byte for byte: with the hardware address of
-/// its interface, the DUID of its host, the option for a Reply at once where that is configured, and, but where items
-/// are given back or declined, the configured IAs in their order, those of a SOLICIT with the prefix that is wished for
-/// (RFC 8415, sections 18.2 and 21.14).
+/// Law: what is read as the client's own message is a frame that it may say, byte for byte: with the hardware address
+/// of its interface, the DUID of its host, the option for a Reply at once where that is configured, and, but where
+/// items are given back or declined, the configured IAs in their order, those of a SOLICIT with the prefix that is
+/// wished for (RFC 8415, sections 18.2 and 21.14).
 pub fn own_dhcp6_messages_alone_are_read()
     ensures { OwnFrames6Alone }
 {}

@@ -22,7 +22,8 @@ all_rest P [] ys all = all
 all_rest P (x ∷ xs) ys all = all_rest P xs ys all.1
 
 -- none passes the test
-pub none_passes : {X : Type 0} (test : X → Bool) (P : X → Type 0) → ((x : X) → test x ≡ false → P x) → (xs : List X) → list_any test xs ≡ false → AllByRecursion P xs
+pub none_passes : {X : Type 0} (test : X → Bool) (P : X → Type 0) → ((x : X) → test x ≡ false → P x) → (xs : List X) → list_any test xs ≡ false
+    → AllByRecursion P xs
 none_passes test P fails [] e = tt
 none_passes test P fails (x ∷ xs) e = let parts = or_parts (test x) (list_any test xs) e in (fails x parts.0, none_passes test P fails xs parts.1)
 
@@ -30,7 +31,8 @@ neither : (a b : Bool) → a ≡ false → b ≡ false → (a || b) ≡ false
 neither true b one other = one
 neither false b one other = other
 
-pub passes_none : {X : Type 0} (test : X → Bool) (P : X → Type 0) → ((x : X) → P x → test x ≡ false) → (xs : List X) → AllByRecursion P xs → list_any test xs ≡ false
+pub passes_none : {X : Type 0} (test : X → Bool) (P : X → Type 0) → ((x : X) → P x → test x ≡ false) → (xs : List X) → AllByRecursion P xs
+    → list_any test xs ≡ false
 passes_none test P fails [] all = refl
 passes_none test P fails (x ∷ xs) all = neither (test x) (list_any test xs) (fails x all.0) (passes_none test P fails xs all.1)
 
@@ -65,6 +67,7 @@ pub apart_front : {X : Type 0} (R : X → X → Type 0) (xs ys : List X) → Apa
 apart_front R [] ys apart = tt
 apart_front R (x ∷ xs) ys apart = (all_front (R x) xs ys apart.0, apart_front R xs ys apart.1)
 
-pub apart_before : {X : Type 0} (R : X → X → Type 0) (before : List X) (x : X) (more : List X) → Apart R (before ++ x ∷ more) → AllByRecursion (λ other. R other x) before
+pub apart_before : {X : Type 0} (R : X → X → Type 0) (before : List X) (x : X) (more : List X) → Apart R (before ++ x ∷ more)
+    → AllByRecursion (λ other. R other x) before
 apart_before R [] x more apart = tt
 apart_before R (y ∷ ys) x more apart = ((all_rest (R y) ys (x ∷ more) apart.0).0, apart_before R ys x more apart.1)

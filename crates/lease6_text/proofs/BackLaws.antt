@@ -20,7 +20,8 @@ any_cause reading front = record {}
 pub spells_one6 : (text : List ℕ) → SpellsOne6 text
 spells_one6 text a b one other = spelled_once (lease6_laws any_cause) text a b one other
 
-only_memory : (text : List ℕ) (lease : Lease6Content) (fault : TextFault BadText) → IsSpelled SpellsLease6 text lease → FirstFault SpellsLease6 AnyCause text fault → fault ≡ NoMemory
+only_memory : (text : List ℕ) (lease : Lease6Content) (fault : TextFault BadText) → IsSpelled SpellsLease6 text lease
+    → FirstFault SpellsLease6 AnyCause text fault → fault ≡ NoMemory
 only_memory text lease (Bad number cause) good bad = absurd (no_bad_line text lease number cause good bad)
 only_memory text lease NoMemory good bad = refl
 

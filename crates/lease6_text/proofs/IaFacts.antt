@@ -70,7 +70,9 @@ pub may_begin_is : (key : IaKind × ℕ) (ias : List IaLease) (has : Bool) → l
     → not has ≡ may_begin (ias_content ias) key
 may_begin_is key ias has few e =
     ap not (e ∙ any_content (is_ia key) ias)
-    ∙ sym (ap (λ b. b && not (has_ia (ias_content ias) key)) (lt-ltb (length (ias_content ias)) IA_LIMIT (subst (λ n. n < IA_LIMIT) (sym (length-map ias ia_content)) few)))
+    ∙ sym
+    (ap (λ b. b && not (has_ia (ias_content ias) key))
+    (lt-ltb (length (ias_content ias)) IA_LIMIT (subst (λ n. n < IA_LIMIT) (sym (length-map ias ia_content)) few)))
 
 -- ---- the same net
 
@@ -99,7 +101,10 @@ pub record CanJoin (items : List Item6) (item : Item6) : Type 0 where
 pub can_join : (items : List Item6) (item : Item6) → may_join items item ≡ true → CanJoin items item
 can_join items item e =
     let parts = and_parts (ltb (length items) ITEM_LIMIT) (not (has_net items item.net)) e in
-    record { few = ltb-true _ _ parts.0; anew = none_passes (is_of_net item.net) (λ other. other.net ≢ item.net) (other_net item.net) items (not-true _ parts.1) }
+    record {
+      few = ltb-true _ _ parts.0;
+      anew = none_passes (is_of_net item.net) (λ other. other.net ≢ item.net) (other_net item.net) items (not-true _ parts.1);
+    }
 
 pub joins : (items : List Item6) (item : Item6) → CanJoin items item → may_join items item ≡ true
 joins items item can =
@@ -150,7 +155,9 @@ front_are front ia are = record {
 
 pub comes_after : (front : List IaLeaseContent) (ia : IaLeaseContent) (more : List IaLeaseContent) → AreIas (front ++ ia ∷ more) → CanBegin front (ia_key ia)
 comes_after front ia more are = record {
-  few = (let few = are.fit.few in let long : length (front ++ ia ∷ more) ≡ length front + suc (length more) = length-append front (ia ∷ more) in omega (arith, few, long));
+  few =
+      (let few = are.fit.few in let long : length (front ++ ia ∷ more)
+      ≡ length front + suc (length more) = length-append front (ia ∷ more) in omega (arith, few, long));
   anew = apart_before UnlikeIas front ia more (apart_from UnlikeIas (front ++ ia ∷ more) are.fit.unlike);
   iaid = (all_rest IsTypedIa front (ia ∷ more) are.typed).0.iaid;
 }

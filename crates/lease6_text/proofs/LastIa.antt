@@ -78,14 +78,17 @@ refused_too make o other cause (Bad why) same refused = (same ∙ ap (option_map
 refused_too make o other cause NoMemory same refused = tt
 
 -- what the code does to the last IA in memory: it was taken off, and stands there again with the item
-pub added_last : (reading : Reading) (items front pushed : List IaLease) (ia joined : IaLease) (rest : List ℕ) → items ≡ front ++ ia ∷ [] → pushed ≡ front ++ joined ∷ []
-    → reading.ias ≡ ias_content items → ia_joined rest (ia_content ia) ≡ Some (ia_content joined) → item_added reading rest ≡ Some (with_ias reading (ias_content pushed))
+pub added_last : (reading : Reading) (items front pushed : List IaLease) (ia joined : IaLease) (rest : List ℕ) → items ≡ front ++ ia ∷ []
+    → pushed ≡ front ++ joined ∷ []
+    → reading.ias ≡ ias_content items → ia_joined rest (ia_content ia) ≡ Some (ia_content joined)
+    → item_added reading rest ≡ Some (with_ias reading (ias_content pushed))
 added_last reading items front pushed ia joined rest was now same joins =
     added_is reading (ias_content front) (ia_content ia) rest (same ∙ ap ias_content was ∙ map-append ia_content front (ia ∷ []))
     ∙ ap (option_map (λ new. with_ias reading (ias_content front ++ new ∷ []))) joins
     ∙ ap (λ ias. Some (with_ias reading ias)) (sym (ap ias_content now ∙ map-append ia_content front (joined ∷ [])))
 
-pub refused_last : {C : Type 0} (reading : Reading) (items front : List IaLease) (ia : IaLease) (rest : List ℕ) (cause : C) (fault : LineFault C) → items ≡ front ++ ia ∷ []
+pub refused_last : {C : Type 0} (reading : Reading) (items front : List IaLease) (ia : IaLease) (rest : List ℕ) (cause : C) (fault : LineFault C)
+    → items ≡ front ++ ia ∷ []
     → reading.ias ≡ ias_content items → Refuses (ia_joined rest (ia_content ia)) cause fault → Refuses (item_added reading rest) cause fault
 refused_last reading items front ia rest cause fault was same refused =
     refused_too (λ new. with_ias reading (ias_content front ++ new ∷ [])) (ia_joined rest (ia_content ia)) (item_added reading rest) cause fault

@@ -51,7 +51,8 @@ value_fed : (value : ValueContent) → FitsValue6 value → AreBytes value.bytes
 value_fed value good octets =
     let small = kept_small value.code good.kept in
     lacks-append 10 option_word (value_text value) refl
-    (lacks-append 10 (decimal value.code) (32 ∷ hex_text value.bytes) (decimal_lacks value.code 10 (omega (arith, small)) refl) (hex_lacks value.bytes 10 octets refl))
+    (lacks-append 10 (decimal value.code) (32 ∷ hex_text value.bytes) (decimal_lacks value.code 10 (omega (arith, small)) refl)
+    (hex_lacks value.bytes 10 octets refl))
 
 values_fed : (values : List ValueContent) → AllByRecursion FitsValue6 values → AllByRecursion (λ value. AreBytes value.bytes) values
     → AreLines (map option_line values ++ end_line ∷ [])
@@ -64,7 +65,8 @@ values_fed (value ∷ values) good octets = (value_fed value good.0 octets.0, va
 field_fed : {X : Type 0} {field : Field X} (word : List ℕ) (x : X) → Lacks 10 word → IsField field → field.Fits x → Lacks 10 (word ++ field.text x)
 field_fed {field = field} word x free is fits = lacks-append 10 word (field.text x) free (is.no_feed x fits)
 
-holder_fed : (origin : Option Origin) (name : Name) → FitsName name → FitsOrigin origin → IfSome origin (λ o. FitsMac o.mac) → AreLines (holder_lines origin name)
+holder_fed : (origin : Option Origin) (name : Name) → FitsName name → FitsOrigin origin → IfSome origin (λ o. FitsMac o.mac)
+    → AreLines (holder_lines origin name)
 holder_fed None name fits timely typed = (refl, (field_fed interface_word name refl name_is fits, tt))
 holder_fed (Some origin) name fits timely typed = (
   refl,
@@ -80,7 +82,8 @@ holder_fed (Some origin) name fits timely typed = (
 pub are_lines : (lease : Lease6Content) → HasText6 lease → AreLines (lease6_lines lease)
 are_lines lease good =
     all_join (Lacks 10) (head_lines lease) (flat_map ia_lines lease.ias ++ (map option_line lease.values ++ end_line ∷ []))
-    (all_join (Lacks 10) (holder_lines lease.origin lease.name) (grant_lines lease) (holder_fed lease.origin lease.name good.fits.name good.fits.origin good.typed.origin) (
+    (all_join (Lacks 10) (holder_lines lease.origin lease.name) (grant_lines lease)
+    (holder_fed lease.origin lease.name good.fits.name good.fits.origin good.typed.origin) (
       field_fed server_word lease.server refl server_is good.typed.server,
       (field_fed renewal_word lease.t1 refl moment_is good.fits.t1, (field_fed rebinding_word lease.t2 refl moment_is good.fits.t2, tt)),
     ))

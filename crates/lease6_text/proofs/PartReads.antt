@@ -78,7 +78,9 @@ no_digits at small = of_test (bytes_eq (decimal at) never) refl
     of_test : (b : Bool) → bytes_eq (decimal at) never ≡ b → bytes_eq (decimal at) never ≡ false
     of_test false e = e
     of_test true e =
-        absurd (both_ways (list_all is_ascii_digit never) refl (subst (λ t. Only is_ascii_digit t) ((bytes_eq-Decides (decimal at) never).0 e) (decimal_only at small)))
+        absurd
+        (both_ways (list_all is_ascii_digit never) refl
+        (subst (λ t. Only is_ascii_digit t) ((bytes_eq-Decides (decimal at) never).0 e) (decimal_only at small)))
 
 abbrev number_or_none : List ℕ → Option (Option ℕ)
 number_or_none text = option_map (λ at. Some at) (number_at MOMENT6_LIMIT text)
@@ -101,7 +103,8 @@ pub moment_reads : Reads moment_text FitsMoment moment_at
 unfolding moment_at
 moment_reads = record {
   sound = λ text moment e.
-      elim (bytes_eq text never) as (λ b. bytes_eq text never ≡ b → cond b (Some None) (number_or_none text) ≡ Some moment → (text ≡ moment_text moment) × FitsMoment moment) [
+      elim (bytes_eq text never) as
+      (λ b. bytes_eq text never ≡ b → cond b (Some None) (number_or_none text) ≡ Some moment → (text ≡ moment_text moment) × FitsMoment moment) [
         | true ↦ λ is q. subst (λ o. (text ≡ moment_text o) × FitsMoment o) (some_same q) ((bytes_eq-Decides text never).0 is, tt)
         | false ↦ λ is q. moment_sound text moment q
       ] refl e;
@@ -132,18 +135,27 @@ of_kind kind iaid = (kind, iaid)
 ia_whole : (kind : IaKind) (iaid : ℕ) → iaid < 2 ^ 32 → ia_at (key_text (of_kind kind iaid)) ≡ Some (of_kind kind iaid)
 unfolding ia_at
 ia_whole Na iaid fits =
-    ap (λ o. by_word o (λ rest. option_map (of_kind Na) (number_at (2 ^ 32) rest)) (option_map (of_kind Pd) (after_word (kind_word Pd) (number_at (2 ^ 32)) (key_text (of_kind Na iaid)))))
+    ap
+    (λ o. by_word o (λ rest. option_map (of_kind Na) (number_at (2 ^ 32) rest))
+    (option_map (of_kind Pd) (after_word (kind_word Pd) (number_at (2 ^ 32)) (key_text (of_kind Na iaid)))))
     (strip_whole (kind_word Na) (decimal iaid))
     ∙ ap (option_map (of_kind Na)) ((number_reads (2 ^ 32) (omega arith)).whole iaid fits)
 ia_whole Pd iaid fits =
-    ap (λ o. by_word o (λ rest. option_map (of_kind Na) (number_at (2 ^ 32) rest)) (option_map (of_kind Pd) (after_word (kind_word Pd) (number_at (2 ^ 32)) (key_text (of_kind Pd iaid)))))
+    ap
+    (λ o. by_word o (λ rest. option_map (of_kind Na) (number_at (2 ^ 32) rest))
+    (option_map (of_kind Pd) (after_word (kind_word Pd) (number_at (2 ^ 32)) (key_text (of_kind Pd iaid)))))
     (words_apart (kind_word Na) (kind_word Pd) (decimal iaid) refl)
     ∙ ap (option_map (of_kind Pd)) ((word_reads (kind_word Pd) (number_reads (2 ^ 32) (omega arith))).whole iaid fits)
 
 ia_sound : (text : List ℕ) (key : IaKind × ℕ) → ia_at text ≡ Some key → (text ≡ key_text key) × FitsKey key
 unfolding ia_at
 ia_sound text key e =
-    elim (strip_word (kind_word Na) text) as (λ o. strip_word (kind_word Na) text ≡ o → by_word o (λ rest. option_map (of_kind Na) (number_at (2 ^ 32) rest)) (option_map (of_kind Pd) (after_word (kind_word Pd) (number_at (2 ^ 32)) text)) ≡ Some key → (text ≡ key_text key) × FitsKey key) [
+    elim (strip_word (kind_word Na) text) as
+    (λ o. strip_word (kind_word Na) text ≡ o
+    → by_word o (λ rest. option_map (of_kind Na) (number_at (2 ^ 32) rest))
+    (option_map (of_kind Pd) (after_word (kind_word Pd) (number_at (2 ^ 32)) text))
+    ≡ Some key
+    → (text ≡ key_text key) × FitsKey key) [
       | Some rest ↦ λ is q.
           let m = mapped (of_kind Na) (number_at (2 ^ 32) rest) key q in
           let s = (number_reads (2 ^ 32) (omega arith)).sound rest m.value m.was in

@@ -54,7 +54,8 @@ abbrev value_lines : Reading → List Line
 value_lines reading = map option_line reading.values ++ end_line ∷ []
 
 first_left : (reading : Reading) (kind : IaKind) (iaid : ℕ)
-    → LeftBy (lease_in (with_ia reading kind iaid (some_item kind))) (lines_before (FirstItem kind iaid) (lease_in reading)) (item_line kind (some_item kind) ∷ value_lines reading)
+    → LeftBy (lease_in (with_ia reading kind iaid (some_item kind))) (lines_before (FirstItem kind iaid) (lease_in reading))
+    (item_line kind (some_item kind) ∷ value_lines reading)
 first_left reading kind iaid =
     let heads = head_lines (lease_in reading) in
     let before = flat_map ia_lines reading.ias ++ ia_line kind iaid ∷ [] in
@@ -68,7 +69,8 @@ done from reading lines more good is left = record { value = lease_in reading; m
 
 -- after a part of the lines of by whom it was granted
 grant_cut : (from : NextLine) (reading : Reading) (lines taken left : List Line) → HasText6 (lease_in reading) → lines ≡ lines_before from (lease_in reading)
-    → lines_before from (lease_in reading) ≡ holder_lines reading.origin reading.name ++ taken → taken ++ left ≡ grant_lines (lease_in reading) → Completes SpellsLease6 lines
+    → lines_before from (lease_in reading) ≡ holder_lines reading.origin reading.name ++ taken → taken ++ left ≡ grant_lines (lease_in reading)
+    → Completes SpellsLease6 lines
 grant_cut from reading lines taken left good is part whole =
     let lease = lease_in reading in
     let holder = holder_lines reading.origin reading.name in
@@ -152,7 +154,8 @@ completed reading lines before = complete_at reading.next reading lines before.g
 
 -- ---- the end
 
-ended_at : (next : NextLine) (reading : Reading) (lines : List Line) (lease : Lease6Content) → HasText6 (lease_in reading) → lines ≡ lines_before next (lease_in reading)
+ended_at : (next : NextLine) (reading : Reading) (lines : List Line) (lease : Lease6Content) → HasText6 (lease_in reading)
+    → lines ≡ lines_before next (lease_in reading)
     → given_at next reading ≡ Some lease → SpellsLease6 lease lines
 ended_at Version reading lines lease good is e = absurd (none-some lease e)
 ended_at (Interface version) reading lines lease good is e = absurd (none-some lease e)

@@ -51,7 +51,8 @@ behind : (lease : Lease6Content) (lines more : List Line) → head_lines lease +
 behind lease lines more = sym (append_assoc (head_lines lease) lines more)
 
 -- by what is read of the line after a word
-by_reads : {X : Type 0} {text_of : X → List ℕ} {Fits : X → Type 0} {found : List ℕ → Option X} (from : NextLine) (lease : Lease6Content) (text : List ℕ) (next : Reading)
+by_reads : {X : Type 0} {text_of : X → List ℕ} {Fits : X → Type 0} {found : List ℕ → Option X} (from : NextLine) (lease : Lease6Content) (text : List ℕ)
+    (next : Reading)
     (word : List ℕ) (make : X → Reading) → Reads text_of Fits found → ((x : X) → Fits x → Taken from lease (word ++ text_of x) (make x))
     → option_map make (found text) ≡ Some next → Taken from lease (word ++ text) next
 by_reads {found = found} from lease text next word make law takes e =
@@ -61,8 +62,10 @@ by_reads {found = found} from lease text next word make law takes e =
     (subst (λ t. Taken from lease (word ++ t) (make m.value)) (sym s.0) (takes m.value s.1))
 
 -- by the field after a word
-by_field : {X : Type 0} {field : Field X} (from : NextLine) (lease : Lease6Content) (line : Line) (next : Reading) (word : List ℕ) (make : X → Reading) → IsField field
-    → ((x : X) → field.Fits x → Taken from lease (word ++ field.text x) (make x)) → option_map make (after_word word field.at line) ≡ Some next → Taken from lease line next
+by_field : {X : Type 0} {field : Field X} (from : NextLine) (lease : Lease6Content) (line : Line) (next : Reading) (word : List ℕ) (make : X → Reading)
+    → IsField field
+    → ((x : X) → field.Fits x → Taken from lease (word ++ field.text x) (make x)) → option_map make (after_word word field.at line) ≡ Some next
+    → Taken from lease line next
 by_field from lease line next word make is takes e = by_reads from lease line next [] make (word_reads word is.reads) takes e
 
 -- ---- a lease with other parts
@@ -76,7 +79,8 @@ with_name lease name good fits = record {
 abbrev pub origin_of : Mac → (at : ℕ) → Option Origin
 origin_of mac at = Some (record { mac = mac; confirmed = at })
 
-pub with_origin_fits : (lease : Lease6Content) (mac : Mac) (at : ℕ) → HasText6 lease → FitsMac mac → at < MOMENT_LIMIT → HasText6 (record lease { origin = origin_of mac at })
+pub with_origin_fits : (lease : Lease6Content) (mac : Mac) (at : ℕ) → HasText6 lease → FitsMac mac → at < MOMENT_LIMIT
+    → HasText6 (record lease { origin = origin_of mac at })
 with_origin_fits lease mac at good fits early = record {
   fits = record { origin = early; name = good.fits.name; t1 = good.fits.t1; t2 = good.fits.t2; ias = good.fits.ias; values = good.fits.values };
   typed = record { origin = fits; server = good.typed.server; ias = good.typed.ias; values = good.typed.values };
@@ -114,18 +118,21 @@ ias_are lease good = record { fit = good.fits.ias; typed = good.typed.ias }
 abbrev pub new_ia : IaKind → (iaid : ℕ) → Item6 → IaLeaseContent
 new_ia kind iaid item = record { kind = kind; iaid = iaid; items = item ∷ [] }
 
-pub first_good : (reading : Reading) (kind : IaKind) (iaid : ℕ) (item : Item6) → HasText6 (lease_in reading) → CanBegin reading.ias (kind, iaid) → IsItem kind item
+pub first_good : (reading : Reading) (kind : IaKind) (iaid : ℕ) (item : Item6) → HasText6 (lease_in reading) → CanBegin reading.ias (kind, iaid)
+    → IsItem kind item
     → HasText6 (lease_in (with_ia reading kind iaid item))
 first_good reading kind iaid item good can is =
     other_ias (lease_in reading) (reading.ias ++ new_ia kind iaid item ∷ []) good
-    (ia_more reading.ias (new_ia kind iaid item) (ias_are (lease_in reading) good) can (one_item kind iaid item is) (record { iaid = can.iaid; items = (is.typed, tt) }))
+    (ia_more reading.ias (new_ia kind iaid item) (ias_are (lease_in reading) good) can (one_item kind iaid item is)
+    (record { iaid = can.iaid; items = (is.typed, tt) }))
 
 pub first_lines : (ias : List IaLeaseContent) (kind : IaKind) (iaid : ℕ) (item : Item6)
     → flat_map ia_lines (ias ++ new_ia kind iaid item ∷ []) ≡ (flat_map ia_lines ias ++ ia_line kind iaid ∷ []) ++ item_line kind item ∷ []
 first_lines ias kind iaid item =
     flat_map-append ia_lines ias (new_ia kind iaid item ∷ []) ∙ sym (append_assoc (flat_map ia_lines ias) (ia_line kind iaid ∷ []) (item_line kind item ∷ []))
 
-first_taken : (reading : Reading) (kind : IaKind) (iaid : ℕ) (item : Item6) → HasText6 (lease_in reading) → CanBegin reading.ias (kind, iaid) → reading.values ≡ []
+first_taken : (reading : Reading) (kind : IaKind) (iaid : ℕ) (item : Item6) → HasText6 (lease_in reading) → CanBegin reading.ias (kind, iaid)
+    → reading.values ≡ []
     → IsItem kind item → Taken (FirstItem kind iaid) (lease_in reading) (item_line kind item) (with_ia reading kind iaid item)
 first_taken reading kind iaid item good can none is = record {
   spelled = ap (λ lines. head_lines (lease_in reading) ++ lines) (first_lines reading.ias kind iaid item)
@@ -153,8 +160,10 @@ more_lines front ia item =
 abbrev pub with_last : Reading → List IaLeaseContent → IaLeaseContent → Reading
 with_last reading front ia = with_ias reading (front ++ ia ∷ [])
 
-item_taken : (reading : Reading) (front : List IaLeaseContent) (ia : IaLeaseContent) (item : Item6) → HasText6 (lease_in (with_last reading front ia)) → reading.values ≡ []
-    → IsItem ia.kind item → CanJoin ia.items item → Taken Ias (lease_in (with_last reading front ia)) (item_line ia.kind item) (with_last reading front (ia_with ia item))
+item_taken : (reading : Reading) (front : List IaLeaseContent) (ia : IaLeaseContent) (item : Item6) → HasText6 (lease_in (with_last reading front ia))
+    → reading.values ≡ []
+    → IsItem ia.kind item → CanJoin ia.items item
+    → Taken Ias (lease_in (with_last reading front ia)) (item_line ia.kind item) (with_last reading front (ia_with ia item))
 item_taken reading front ia item good none is can =
     let old = lease_in (with_last reading front ia) in
     record {
@@ -164,7 +173,8 @@ item_taken reading front ia item good none is can =
       read = none;
     }
 
-last_taken : (reading : Reading) (front : List IaLeaseContent) (ia : IaLeaseContent) (rest : List ℕ) (next : Reading) → HasText6 (lease_in (with_last reading front ia))
+last_taken : (reading : Reading) (front : List IaLeaseContent) (ia : IaLeaseContent) (rest : List ℕ) (next : Reading)
+    → HasText6 (lease_in (with_last reading front ia))
     → reading.values ≡ [] → option_map (λ new. with_last reading front new) (ia_joined rest ia) ≡ Some next
     → Taken Ias (lease_in (with_last reading front ia)) (item_word ia.kind ++ rest) next
 last_taken reading front ia rest next good none e =
@@ -180,7 +190,8 @@ added_taken reading line rest next good none was e =
     let line_is = strip_sound (item_word last.ia.kind) line rest last.was in
     let changed = sym (added_is reading last.front last.ia rest last.parts) ∙ e in
     subst (λ l. Taken Ias (lease_in reading) l next) (sym line_is)
-    (subst (λ ias. HasText6 (lease_in (with_ias reading ias)) → Taken Ias (lease_in (with_ias reading ias)) (item_word last.ia.kind ++ rest) next) (sym last.parts)
+    (subst (λ ias. HasText6 (lease_in (with_ias reading ias)) → Taken Ias (lease_in (with_ias reading ias)) (item_word last.ia.kind ++ rest) next)
+    (sym last.parts)
     (λ fits. last_taken reading last.front last.ia rest next fits none changed) good)
 
 -- ---- values
@@ -190,7 +201,8 @@ rising_more : (before : ℕ) (values : List ValueContent) (value : ValueContent)
 rising_more before [] value rising above = (above, tt)
 rising_more before (first ∷ values) value rising above = (rising.0, rising_more first.code values value rising.1 above)
 
-with_values : (lease : Lease6Content) (value : ValueContent) → HasText6 lease → IsNext (last_code lease.values) value → HasText6 (record lease { values = lease.values ++ value ∷ [] })
+with_values : (lease : Lease6Content) (value : ValueContent) → HasText6 lease → IsNext (last_code lease.values) value
+    → HasText6 (record lease { values = lease.values ++ value ∷ [] })
 with_values lease value good is = record {
   fits = record {
     origin = good.fits.origin;
@@ -211,12 +223,18 @@ with_values lease value good is = record {
   };
 }
 
-value_taken : (reading : Reading) (line : Line) (next : Reading) → HasText6 (lease_in reading) → value_step reading line ≡ Some next → Taken Values (lease_in reading) line next
+value_taken : (reading : Reading) (line : Line) (next : Reading) → HasText6 (lease_in reading) → value_step reading line ≡ Some next
+    → Taken Values (lease_in reading) line next
 unfolding value_step
 value_taken reading line next good e =
     let lease = lease_in reading in
     let lines = flat_map ia_lines reading.ias in
-    elim (strip_word option_word line) as (λ o. strip_word option_word line ≡ o → by_word o (λ rest. option_map (with_value reading) (value6_at (last_code reading.values) rest)) (option_map (λ _. goes_to Nothing reading) (after_word end_line end_at line)) ≡ Some next → Taken Values lease line next) [
+    elim (strip_word option_word line) as
+    (λ o. strip_word option_word line ≡ o
+    → by_word o (λ rest. option_map (with_value reading) (value6_at (last_code reading.values) rest))
+    (option_map (λ _. goes_to Nothing reading) (after_word end_line end_at line))
+    ≡ Some next
+    → Taken Values lease line next) [
       | Some rest ↦ λ is q. subst (λ l. Taken Values lease l next) (sym (strip_sound option_word line rest is))
           (by_reads Values lease rest next option_word (with_value reading) (value_reads (last_code reading.values))
           (λ value fits. record {
@@ -248,12 +266,22 @@ body_taken : (reading : Reading) (line : Line) (next : Reading) → HasText6 (le
 unfolding step_at
 body_taken reading line next good none e =
     let lease = lease_in reading in
-    elim (strip_word ia_word line) as (λ o. strip_word ia_word line ≡ o → by_word o (begun reading) (by_word (item_rest reading.ias line) (item_added reading) (value_step reading line)) ≡ Some next → Taken Ias lease line next) [
+    elim (strip_word ia_word line) as
+    (λ o. strip_word ia_word line ≡ o
+    → by_word o (begun reading) (by_word (item_rest reading.ias line) (item_added reading) (value_step reading line)) ≡ Some next
+    → Taken Ias lease line next) [
       | Some rest ↦ λ is q. subst (λ l. Taken Ias lease l next) (sym (strip_sound ia_word line rest is))
           (by_reads Ias lease rest next ia_word (λ (key : IaKind × ℕ). goes_to (FirstItem key.0 key.1) reading) (guard_reads (may_begin reading.ias) ia_reads)
-          (λ key fits. record { spelled = behind lease (flat_map ia_lines reading.ias) (ia_line key.0 key.1 ∷ []); good = good; read = (can_begin reading.ias key fits.0 fits.1, none) }) q)
+          (λ key fits.
+          record {
+            spelled = behind lease (flat_map ia_lines reading.ias) (ia_line key.0 key.1 ∷ []);
+            good = good;
+            read = (can_begin reading.ias key fits.0 fits.1, none);
+          })
+          q)
       | None ↦ λ is q.
-          elim (item_rest reading.ias line) as (λ o. item_rest reading.ias line ≡ o → by_word o (item_added reading) (value_step reading line) ≡ Some next → Taken Ias lease line next) [
+          elim (item_rest reading.ias line) as
+          (λ o. item_rest reading.ias line ≡ o → by_word o (item_added reading) (value_step reading line) ≡ Some next → Taken Ias lease line next) [
             | Some rest ↦ λ was p. added_taken reading line rest next good none was p
             | None ↦ λ was p.
                 let t = value_taken reading line next good p in
@@ -261,7 +289,8 @@ body_taken reading line next good none e =
           ] refl q
     ] refl e
 
-named : (reading : Reading) (version : TextVersion) (name : Name) → HasText6 (lease_in reading) → HasRead (Interface version) reading.origin reading.ias reading.values → FitsName name
+named : (reading : Reading) (version : TextVersion) (name : Name) → HasText6 (lease_in reading)
+    → HasRead (Interface version) reading.origin reading.ias reading.values → FitsName name
     → Taken (Interface version) (lease_in reading) (interface_line name) (record reading { next = after_interface version; name = name })
 named reading Plain name good read fits =
     record { spelled = ap (λ origin. holder_lines origin name) read.0; good = with_name (lease_in reading) name good fits; read = read.1 }
@@ -279,7 +308,8 @@ head_taken reading t2 good read fits =
       read = read.1;
     }
 
-pub line_taken : (from : NextLine) (reading : Reading) (line : Line) (next : Reading) → HasText6 (lease_in reading) → HasRead from reading.origin reading.ias reading.values
+pub line_taken : (from : NextLine) (reading : Reading) (line : Line) (next : Reading) → HasText6 (lease_in reading)
+    → HasRead from reading.origin reading.ias reading.values
     → step_at from reading line ≡ Some next → Taken from (lease_in reading) line next
 unfolding step_at
 line_taken Version reading line next good read e =

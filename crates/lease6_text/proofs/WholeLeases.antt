@@ -64,24 +64,31 @@ record AreValues (before values : List ValueContent) : Type 0 where
   each : AllByRecursion FitsValue6 values
   octets : AllByRecursion (λ value. AreBytes value.bytes) values
 
-first_next : (before : List ValueContent) (value : ValueContent) (values : List ValueContent) → AreValues before (value ∷ values) → IsNext (last_code before) value
+first_next : (before : List ValueContent) (value : ValueContent) (values : List ValueContent) → AreValues before (value ∷ values)
+    → IsNext (last_code before) value
 first_next before value values are = record { above = are.rising.0; code = kept_small value.code are.each.0.kept; good = are.each.0; octets = are.octets.0 }
 
-other_values : (before : List ValueContent) (value : ValueContent) (values : List ValueContent) → AreValues before (value ∷ values) → AreValues (before ++ value ∷ []) values
+other_values : (before : List ValueContent) (value : ValueContent) (values : List ValueContent) → AreValues before (value ∷ values)
+    → AreValues (before ++ value ∷ []) values
 other_values before value values are =
     record { rising = subst (λ n. IsRising n values) (sym (last_more before value)) are.rising.1; each = are.each.1; octets = are.octets.1 }
 
-value_said : (reading : Reading) (value : ValueContent) → IsNext (last_code reading.values) value → value_step reading (option_line value) ≡ Some (with_value reading value)
+value_said : (reading : Reading) (value : ValueContent) → IsNext (last_code reading.values) value
+    → value_step reading (option_line value) ≡ Some (with_value reading value)
 unfolding value_step
 value_said reading value is =
-    ap (λ o. by_word o (λ rest. option_map (with_value reading) (value6_at (last_code reading.values) rest)) (option_map (λ _. goes_to Nothing reading) (after_word end_line end_at (option_line value))))
+    ap
+    (λ o. by_word o (λ rest. option_map (with_value reading) (value6_at (last_code reading.values) rest))
+    (option_map (λ _. goes_to Nothing reading) (after_word end_line end_at (option_line value))))
     (strip_whole option_word (value_text value))
     ∙ said (with_value reading) value (value_reads (last_code reading.values)) is
 
 end_said : (reading : Reading) → value_step reading end_line ≡ Some (goes_to Nothing reading)
 unfolding value_step
 end_said reading =
-    ap (λ o. by_word o (λ rest. option_map (with_value reading) (value6_at (last_code reading.values) rest)) (option_map (λ _. goes_to Nothing reading) (after_word end_line end_at end_line)))
+    ap
+    (λ o. by_word o (λ rest. option_map (with_value reading) (value6_at (last_code reading.values) rest))
+    (option_map (λ _. goes_to Nothing reading) (after_word end_line end_at end_line)))
     (words_apart option_word end_line [] refl)
     ∙ said (λ _. goes_to Nothing reading) tt (word_reads end_line end_reads) tt
 
@@ -103,7 +110,8 @@ kinds_apart : (word : List ℕ) → differ (item_word Na) word ≡ true → diff
 kinds_apart word one other Na = one
 kinds_apart word one other Pd = other
 
-no_item : (ias : List IaLeaseContent) (word rest : List ℕ) → differ (item_word Na) word ≡ true → differ (item_word Pd) word ≡ true → item_rest ias (word ++ rest) ≡ None
+no_item : (ias : List IaLeaseContent) (word rest : List ℕ) → differ (item_word Na) word ≡ true → differ (item_word Pd) word ≡ true
+    → item_rest ias (word ++ rest) ≡ None
 no_item [] word rest one other = refl
 no_item (ia ∷ []) word rest one other = words_apart (item_word ia.kind) word rest (kinds_apart word one other ia.kind)
 no_item (ia ∷ next ∷ ias) word rest one other = no_item (next ∷ ias) word rest one other
@@ -112,7 +120,8 @@ no_ia : (reading : Reading) (word rest : List ℕ) → differ ia_word word ≡ t
     → step_at Ias reading (word ++ rest) ≡ value_step reading (word ++ rest)
 unfolding step_at
 no_ia reading word rest ia one other =
-    ap (λ o. by_word o (begun reading) (by_word (item_rest reading.ias (word ++ rest)) (item_added reading) (value_step reading (word ++ rest)))) (words_apart ia_word word rest ia)
+    ap (λ o. by_word o (begun reading) (by_word (item_rest reading.ias (word ++ rest)) (item_added reading) (value_step reading (word ++ rest))))
+    (words_apart ia_word word rest ia)
     ∙ ap (λ o. by_word o (item_added reading) (value_step reading (word ++ rest))) (no_item reading.ias word rest one other)
 
 body_values : (lease : Lease6Content) (ias : List IaLeaseContent) (values : List ValueContent) → AreValues [] values
@@ -122,7 +131,8 @@ body_values lease ias [] are =
     (no_ia (at_body lease Ias ias []) end_line [] refl refl refl ∙ end_said (at_body lease Ias ias [])) refl
 body_values lease ias (value ∷ values) are =
     one_more (at_body lease Ias ias []) (at_body lease Values ias (value ∷ [])) (option_line value) (map option_line values ++ end_line ∷ []) _
-    (no_ia (at_body lease Ias ias []) option_word (value_text value) refl refl refl ∙ value_said (at_body lease Ias ias []) value (first_next [] value values are))
+    (no_ia (at_body lease Ias ias []) option_word (value_text value) refl refl refl
+    ∙ value_said (at_body lease Ias ias []) value (first_next [] value values are))
     (values_run lease ias (value ∷ []) values (other_values [] value values are))
 
 -- ---- items
@@ -134,14 +144,17 @@ ia_not_item : (kind : IaKind) → differ ia_word (item_word kind) ≡ true
 ia_not_item Na = refl
 ia_not_item Pd = refl
 
-item_said : (lease : Lease6Content) (front : List IaLeaseContent) (kind : IaKind) (iaid : ℕ) (got : List Item6) (item : Item6) → IsItem kind item → CanJoin got item
-    → step (at_body lease Ias (front ++ ia_of kind iaid got ∷ []) []) (item_line kind item) ≡ Some (at_body lease Ias (front ++ ia_of kind iaid (got ++ item ∷ []) ∷ []) [])
+item_said : (lease : Lease6Content) (front : List IaLeaseContent) (kind : IaKind) (iaid : ℕ) (got : List Item6) (item : Item6) → IsItem kind item
+    → CanJoin got item
+    → step (at_body lease Ias (front ++ ia_of kind iaid got ∷ []) []) (item_line kind item)
+    ≡ Some (at_body lease Ias (front ++ ia_of kind iaid (got ++ item ∷ []) ∷ []) [])
 unfolding step_at
 item_said lease front kind iaid got item is can =
     let ia : IaLeaseContent = ia_of kind iaid got in
     let reading : Reading = at_body lease Ias (front ++ ia ∷ []) [] in
     let line = item_line kind item in
-    ap (λ o. by_word o (begun reading) (by_word (item_rest reading.ias line) (item_added reading) (value_step reading line))) (words_apart ia_word (item_word kind) (item_text kind item) (ia_not_item kind))
+    ap (λ o. by_word o (begun reading) (by_word (item_rest reading.ias line) (item_added reading) (value_step reading line)))
+    (words_apart ia_word (item_word kind) (item_text kind item) (ia_not_item kind))
     ∙ ap (λ o. by_word o (item_added reading) (value_step reading line)) (rest_is front ia line ∙ strip_whole (item_word kind) (item_text kind item))
     ∙ added_is reading front ia (item_text kind item) refl
     ∙ ap (option_map (λ new. with_ias reading (front ++ new ∷ [])))
@@ -155,7 +168,9 @@ pub record AreItems (kind : IaKind) (got items : List Item6) : Type 0 where
 
 next_joins : (kind : IaKind) (got : List Item6) (item : Item6) (items : List Item6) → AreItems kind got (item ∷ items) → CanJoin got item
 next_joins kind got item items are = record {
-  few = (let few = are.few in let long : length (got ++ item ∷ items) ≡ length got + suc (length items) = length-append got (item ∷ items) in omega (arith, few, long));
+  few =
+      (let few = are.few in let long : length (got ++ item ∷ items)
+      ≡ length got + suc (length items) = length-append got (item ∷ items) in omega (arith, few, long));
   anew = apart_before UnlikeItems got item items (apart_from UnlikeItems (got ++ item ∷ items) are.unlike);
 }
 
@@ -168,7 +183,8 @@ others_are kind got item items are =
       each = are.each.1;
     }
 
-items_run : (lease : Lease6Content) (front : List IaLeaseContent) (kind : IaKind) (iaid : ℕ) (got items : List Item6) (rest : List Line) (end : Option Reading) → AreItems kind got items
+items_run : (lease : Lease6Content) (front : List IaLeaseContent) (kind : IaKind) (iaid : ℕ) (got items : List Item6) (rest : List Line) (end : Option Reading)
+    → AreItems kind got items
     → run step rest (at_body lease Ias (front ++ ia_of kind iaid (got ++ items) ∷ []) []) ≡ end
     → run step (map (item_line kind) items ++ rest) (at_body lease Ias (front ++ ia_of kind iaid got ∷ []) []) ≡ end
 items_run lease front kind iaid got [] rest end are later =
@@ -191,8 +207,10 @@ unfolding step_at
 ia_said lease front kind iaid can =
     let reading : Reading = at_body lease Ias front [] in
     let line = ia_line kind iaid in
-    ap (λ o. by_word o (begun reading) (by_word (item_rest reading.ias line) (item_added reading) (value_step reading line))) (strip_whole ia_word (kind_word kind ++ decimal iaid))
-    ∙ said (λ (key : IaKind × ℕ). goes_to (FirstItem key.0 key.1) reading) (kind, iaid) (guard_reads (may_begin front) ia_reads) (can.iaid, begins front (kind, iaid) can)
+    ap (λ o. by_word o (begun reading) (by_word (item_rest reading.ias line) (item_added reading) (value_step reading line)))
+    (strip_whole ia_word (kind_word kind ++ decimal iaid))
+    ∙ said (λ (key : IaKind × ℕ). goes_to (FirstItem key.0 key.1) reading) (kind, iaid) (guard_reads (may_begin front) ia_reads)
+    (can.iaid, begins front (kind, iaid) can)
 
 first_said : (lease : Lease6Content) (front : List IaLeaseContent) (kind : IaKind) (iaid : ℕ) (item : Item6) → IsItem kind item
     → step (first_item lease front kind iaid) (item_line kind item) ≡ Some (at_body lease Ias (front ++ ia_of kind iaid (item ∷ []) ∷ []) [])
@@ -200,18 +218,22 @@ unfolding step_at
 first_said lease front kind iaid item is =
     said (with_ia (first_item lease front kind iaid) kind iaid) item (word_reads (item_word kind) (item_reads kind)) is
 
-ia_run : (lease : Lease6Content) (front : List IaLeaseContent) (kind : IaKind) (iaid : ℕ) (items : List Item6) (rest : List Line) (end : Option Reading) → CanBegin front (kind, iaid)
+ia_run : (lease : Lease6Content) (front : List IaLeaseContent) (kind : IaKind) (iaid : ℕ) (items : List Item6) (rest : List Line) (end : Option Reading)
+    → CanBegin front (kind, iaid)
     → 1 ≤ length items → AreItems kind [] items → run step rest (at_body lease Ias (front ++ ia_of kind iaid items ∷ []) []) ≡ end
     → run step (ia_line kind iaid ∷ (map (item_line kind) items ++ rest)) (at_body lease Ias front []) ≡ end
 ia_run lease front kind iaid [] rest end can some are later = absurd (omega (arith, some))
 ia_run lease front kind iaid (item ∷ items) rest end can some are later =
-    one_more (at_body lease Ias front []) (first_item lease front kind iaid) (ia_line kind iaid) (item_line kind item ∷ (map (item_line kind) items ++ rest)) end
+    one_more (at_body lease Ias front []) (first_item lease front kind iaid) (ia_line kind iaid)
+    (item_line kind item ∷ (map (item_line kind) items ++ rest)) end
     (ia_said lease front kind iaid can)
-    (one_more (first_item lease front kind iaid) (at_body lease Ias (front ++ ia_of kind iaid (item ∷ []) ∷ []) []) (item_line kind item) (map (item_line kind) items ++ rest) end
+    (one_more (first_item lease front kind iaid) (at_body lease Ias (front ++ ia_of kind iaid (item ∷ []) ∷ []) []) (item_line kind item)
+    (map (item_line kind) items ++ rest) end
     (first_said lease front kind iaid item are.each.0)
     (items_run lease front kind iaid (item ∷ []) items rest end (others_are kind [] item items are) later))
 
-each_item : (kind : IaKind) (items : List Item6) → AllByRecursion (FitsItem kind) items → AllByRecursion (λ (item : Item6). FitsIp6 item.net.ip) items → AllByRecursion (IsItem kind) items
+each_item : (kind : IaKind) (items : List Item6) → AllByRecursion (FitsItem kind) items → AllByRecursion (λ (item : Item6). FitsIp6 item.net.ip) items
+    → AllByRecursion (IsItem kind) items
 each_item kind [] good typed = tt
 each_item kind (item ∷ items) good typed = (record { good = good.0; typed = typed.0 }, each_item kind items good.1 typed.1)
 
@@ -222,7 +244,8 @@ ias_run lease front (ia ∷ ias) rest end are later =
     let fits = own_fits front ia ias are in
     let same = append_assoc front (ia ∷ []) ias in
     let others = flat_map ia_lines ias ++ rest in
-    ap (λ lines. run step (ia_line ia.kind ia.iaid ∷ lines) (at_body lease Ias front [])) (append_assoc (map (item_line ia.kind) ia.items) (flat_map ia_lines ias) rest)
+    ap (λ lines. run step (ia_line ia.kind ia.iaid ∷ lines) (at_body lease Ias front []))
+    (append_assoc (map (item_line ia.kind) ia.items) (flat_map ia_lines ias) rest)
     ∙ ia_run lease front ia.kind ia.iaid ia.items others end (comes_after front ia ias are) fits.0.some
     (record { few = fits.0.few; unlike = fits.0.unlike; each = each_item ia.kind ia.items fits.0.each fits.1.items })
     (ias_run lease (front ++ ia ∷ []) ias rest end (subst AreIas (sym same) are) (ap (λ all. run step rest (at_body lease Ias all [])) same ∙ later))
@@ -247,7 +270,8 @@ said_field : {X A : Type 0} {field : Field X} (word : List ℕ) (make : X → A)
     → option_map make (after_word word field.at (word ++ field.text x)) ≡ Some (make x)
 said_field word make x is fits = said make x (word_reads word is.reads) fits
 
-holder_run : (origin : Option Origin) (name : Name) (rest : List Line) (end : Option Reading) → FitsName name → FitsOrigin origin → IfSome origin (λ o. FitsMac o.mac)
+holder_run : (origin : Option Origin) (name : Name) (rest : List Line) (end : Option Reading) → FitsName name → FitsOrigin origin
+    → IfSome origin (λ o. FitsMac o.mac)
     → run step rest (at_grant Server name origin None None None) ≡ end → run step (holder_lines origin name ++ rest) start ≡ end
 unfolding step_at
 holder_run None name rest end fits timely typed later =
@@ -281,7 +305,8 @@ lines_run lease good =
     (said_field server_word (λ server. at Renewal (Some server) None None) lease.server server_is good.typed.server)
     (one_more (at Renewal (Some lease.server) None None) (at Rebinding (Some lease.server) lease.t1 None) (renewal_word ++ moment_text lease.t1) t2 _
     (said_field renewal_word (λ t1. at Rebinding (Some lease.server) t1 None) lease.t1 moment_is good.fits.t1)
-    (one_more (at Rebinding (Some lease.server) lease.t1 None) (at Ias (Some lease.server) lease.t1 lease.t2) (rebinding_word ++ moment_text lease.t2) (body_lines lease) _
+    (one_more (at Rebinding (Some lease.server) lease.t1 None) (at Ias (Some lease.server) lease.t1 lease.t2) (rebinding_word ++ moment_text lease.t2)
+    (body_lines lease) _
     (said_field rebinding_word (λ t2. at Ias (Some lease.server) lease.t1 t2) lease.t2 moment_is good.fits.t2)
     (ias_run lease [] lease.ias (map option_line lease.values ++ end_line ∷ []) _ (record { fit = good.fits.ias; typed = good.typed.ias })
     (body_values lease lease.ias lease.values (record { rising = good.fits.values.rising; each = good.fits.values.each; octets = good.typed.values }))))))

@@ -91,14 +91,16 @@ holder_lines origin name = first_line origin ∷ interface_line name ∷ origin_
 -- by whom, and its times
 abbrev pub grant_lines : Lease6Content → List Line
 grant_lines lease =
-    (server_word ++ hex_text lease.server) ∷ (renewal_word ++ moment_text lease.t1) ∷ (rebinding_word ++ moment_text lease.t2) ∷ []
+    (server_word ++ hex_text lease.server) ∷ (renewal_word ++ moment_text lease.t1)
+    ∷ (rebinding_word ++ moment_text lease.t2) ∷ []
 
 -- the lines before those of the IAs
 abbrev pub head_lines : Lease6Content → List Line
 head_lines lease = holder_lines lease.origin lease.name ++ grant_lines lease
 
 abbrev pub lease6_lines : Lease6Content → List Line
-lease6_lines lease = head_lines lease ++ (flat_map ia_lines lease.ias ++ (map option_line lease.values ++ end_line ∷ []))
+lease6_lines lease =
+    head_lines lease ++ (flat_map ia_lines lease.ias ++ (map option_line lease.values ++ end_line ∷ []))
 
 abbrev pub lease6_text : Lease6Content → List ℕ
 lease6_text lease = lines_text (lease6_lines lease)

@@ -51,7 +51,8 @@ goes_to next reading = record reading { next = next }
 
 -- an IA begins, if it may
 abbrev pub begun : Reading → List ℕ → Option Reading
-begun reading rest = option_map (λ key. goes_to (FirstItem key.0 key.1) reading) (guarded (may_begin reading.ias) (ia_at rest))
+begun reading rest =
+    option_map (λ key. goes_to (FirstItem key.0 key.1) reading) (guarded (may_begin reading.ias) (ia_at rest))
 
 -- an IA with its first item
 abbrev pub with_ia : Reading → IaKind → (iaid : ℕ) → Item6 → Reading
@@ -67,7 +68,8 @@ item_rest (ia ∷ other ∷ ias) line = item_rest (other ∷ ias) line
 -- an IA with the item that a text spells, if it may have it
 abbrev pub ia_joined : List ℕ → IaLeaseContent → Option IaLeaseContent
 ia_joined rest ia =
-    option_map (λ item. record ia { items = ia.items ++ item ∷ [] }) (guarded (may_join ia.items) (item_at ia.kind rest))
+    option_map (λ item. record ia { items = ia.items ++ item ∷ [] })
+    (guarded (may_join ia.items) (item_at ia.kind rest))
 
 -- IAs of which the last one changes
 abbrev pub last_changed : (IaLeaseContent → Option IaLeaseContent) → List IaLeaseContent → Option (List IaLeaseContent)
@@ -76,7 +78,8 @@ last_changed change (ia ∷ []) = option_map (λ new. new ∷ []) (change ia)
 last_changed change (ia ∷ other ∷ ias) = option_map (λ new. ia ∷ new) (last_changed change (other ∷ ias))
 
 abbrev pub item_added : Reading → List ℕ → Option Reading
-item_added reading rest = option_map (λ ias. record reading { next = Ias; ias = ias }) (last_changed (ia_joined rest) reading.ias)
+item_added reading rest =
+    option_map (λ ias. record reading { next = Ias; ias = ias }) (last_changed (ia_joined rest) reading.ias)
 
 abbrev pub with_value : Reading → ValueContent → Reading
 with_value reading value = record reading { next = Values; values = reading.values ++ value ∷ [] }
@@ -84,7 +87,8 @@ with_value reading value = record reading { next = Values; values = reading.valu
 -- a value more, or the last line
 unfoldable pub value_step : Reading → Line → Option Reading
 value_step reading line =
-    by_word (strip_word option_word line) (λ rest. option_map (with_value reading) (value6_at (last_code reading.values) rest))
+    by_word (strip_word option_word line)
+    (λ rest. option_map (with_value reading) (value6_at (last_code reading.values) rest))
     (option_map (λ _. goes_to Nothing reading) (after_word end_line end_at line))
 
 -- ---- to whom it was granted
@@ -116,15 +120,24 @@ with_origin reading mac at = record reading { next = Server; origin = Some (reco
 unfoldable pub step_at : NextLine → Reading → Line → Option Reading
 step_at Version reading line = option_map (λ version. goes_to (Interface version) reading) (version_at line)
 step_at (Interface version) reading line =
-    option_map (λ name. record reading { next = after_interface version; name = name }) (after_word interface_word name_field.at line)
-step_at OriginMac reading line = option_map (λ mac. goes_to (Confirmed mac) reading) (after_word mac_word mac_field.at line)
-step_at (Confirmed mac) reading line = option_map (with_origin reading mac) (after_word confirmed_word (number_field MOMENT_LIMIT).at line)
-step_at Server reading line = option_map (λ server. record reading { next = Renewal; server = Some server }) (after_word server_word server_at line)
-step_at Renewal reading line = option_map (λ t1. record reading { next = Rebinding; t1 = t1 }) (after_word renewal_word moment_at line)
-step_at Rebinding reading line = option_map (λ t2. record reading { next = Ias; t2 = t2 }) (after_word rebinding_word moment_at line)
-step_at (FirstItem kind iaid) reading line = option_map (with_ia reading kind iaid) (after_word (item_word kind) (item_at kind) line)
+    option_map (λ name. record reading { next = after_interface version; name = name })
+    (after_word interface_word name_field.at line)
+step_at OriginMac reading line =
+    option_map (λ mac. goes_to (Confirmed mac) reading) (after_word mac_word mac_field.at line)
+step_at (Confirmed mac) reading line =
+    option_map (with_origin reading mac) (after_word confirmed_word (number_field MOMENT_LIMIT).at line)
+step_at Server reading line =
+    option_map (λ server. record reading { next = Renewal; server = Some server })
+    (after_word server_word server_at line)
+step_at Renewal reading line =
+    option_map (λ t1. record reading { next = Rebinding; t1 = t1 }) (after_word renewal_word moment_at line)
+step_at Rebinding reading line =
+    option_map (λ t2. record reading { next = Ias; t2 = t2 }) (after_word rebinding_word moment_at line)
+step_at (FirstItem kind iaid) reading line =
+    option_map (with_ia reading kind iaid) (after_word (item_word kind) (item_at kind) line)
 step_at Ias reading line =
-    by_word (strip_word ia_word line) (begun reading) (by_word (item_rest reading.ias line) (item_added reading) (value_step reading line))
+    by_word (strip_word ia_word line) (begun reading)
+    (by_word (item_rest reading.ias line) (item_added reading) (value_step reading line))
 step_at Values reading line = value_step reading line
 step_at Nothing reading line = None
 

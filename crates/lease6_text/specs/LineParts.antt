@@ -56,7 +56,8 @@ may_begin ias key = nat_lt (length ias) IA_LIMIT && not (has_ia ias key)
 -- whether a prefix may be one that is delegated
 abbrev pub is_delegated : Net6 → Bool
 is_delegated net =
-    nat_le SHORTEST_DELEGATED net.len && nat_le net.len LONGEST_DELEGATED && ((net.ip.number % 2 ^ (128 - net.len)) == 0)
+    nat_le SHORTEST_DELEGATED net.len && nat_le net.len LONGEST_DELEGATED
+    && ((net.ip.number % 2 ^ (128 - net.len)) == 0)
 
 unfoldable pub item_net_at : IaKind → List ℕ → Option Net6
 item_net_at Na text = option_map (λ ip. record { ip = ip; len = ADDRESS_LEN }) (printed_ip6_at text)
@@ -87,4 +88,5 @@ may_follow6 before value = nat_lt before value.code && is_kept6 value.code && is
 
 unfoldable pub value6_at : (before : ℕ) → List ℕ → Option ValueContent
 value6_at before text =
-    guarded (may_follow6 before) (option_map (λ p. record { code = p.0; bytes = p.1 }) (pair_at 32 (number_at 65536) hex_at text))
+    guarded (may_follow6 before)
+    (option_map (λ p. record { code = p.0; bytes = p.1 }) (pair_at 32 (number_at 65536) hex_at text))

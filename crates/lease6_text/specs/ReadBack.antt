@@ -16,4 +16,5 @@ SpellsOne6 text = (a b : Lease6Content) → IsSpelled SpellsLease6 text a → Is
 pub record IsReadBack6 (lease : Lease6Content) : Type 0 where
   pub spelled : IsSpelled SpellsLease6 (lease6_text lease) lease
   pub only : (other : Lease6Content) → IsSpelled SpellsLease6 (lease6_text lease) other → other ≡ lease
-  pub whole : (fault : TextFault BadText) → FirstFault SpellsLease6 AnyCause (lease6_text lease) fault → fault ≡ NoMemory
+  pub whole : (fault : TextFault BadText) → FirstFault SpellsLease6 AnyCause (lease6_text lease) fault
+      → fault ≡ NoMemory

@@ -7,8 +7,8 @@ use crate::lease::{
     ADDRESS_LEN, IA_LIMIT, ITEM_LIMIT, LONGEST_DELEGATED, MOMENT6_LIMIT, SHORTEST_DELEGATED,
 };
 
-/// Law: moments are below 10^16 milliseconds, a lease has six associations at most and each four items, an address has 128
-/// bits, and a delegated prefix 8 to 127.
+/// Law: moments are below 10^16 milliseconds, a lease has six associations at most and each four items, an address has
+/// 128 bits, and a delegated prefix 8 to 127.
 pub fn bounds_of_leases()
     ensures moment6_limit { MOMENT6_LIMIT ≡ 10000000000000000 }
     ensures ia_limit { IA_LIMIT ≡ 6 }

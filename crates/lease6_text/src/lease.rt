@@ -17,7 +17,8 @@ pub const SHORTEST_DELEGATED: u8 = 8;
 
 pub const LONGEST_DELEGATED: u8 = 127;
 
-/// An address or a prefix of an IA (RFC 8415, sections 21.6 and 21.22). Its moments are milliseconds since 1970; None is never.
+/// An address or a prefix of an IA (RFC 8415, sections 21.6 and 21.22). Its moments are milliseconds since 1970; None
+/// is never.
 #[derive(Clone, Copy, PartialEq, Eq)]
 pub struct Item6 {
     /// An address has the length `ADDRESS_LEN`.

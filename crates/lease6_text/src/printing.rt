@@ -57,7 +57,8 @@ fn append_origin(origin: Option<Origin>, into: &mut Vec<u8>) -> Result<(), NoMem
 
 /// Appends the lines of to whom it was granted.
 fn append_holder(lease: &Lease6, into: &mut Vec<u8>) -> Result<(), NoMemory>
-    ensures { OnOk result (into.new.items ≡ into.old.items ++ lines_text (holder_lines lease.now.origin lease.now.name)) }
+    ensures { OnOk result
+        (into.new.items ≡ into.old.items ++ lines_text (holder_lines lease.now.origin lease.now.name)) }
 {
     append_version(lease.origin, into)?;
     append_line(b"interface ", &lease.name, into)?;
@@ -128,7 +129,10 @@ fn append_ias(ias: &[IaLease], into: &mut Vec<u8>) -> Result<(), NoMemory>
 
 /// The lines before those of the values.
 fn printed_front(alloc: Global, lease: &Lease6) -> Result<Vec<u8>, NoMemory>
-    ensures { IfOk result (λ text. text.items ≡ lines_text (head_lines (lease6_content lease.now)) ++ lines_text (flat_map ia_lines (lease6_content lease.now).ias)) }
+    ensures { IfOk result
+        (λ text. text.items
+        ≡ lines_text (head_lines (lease6_content lease.now))
+        ++ lines_text (flat_map ia_lines (lease6_content lease.now).ias)) }
 {
     let mut text = Vec::new(alloc);
     append_head(lease, &mut text)?;

@@ -212,8 +212,11 @@ impl LeaseState {
         iaid: u32,
         line: &[u8],
     ) -> Result<LeaseState, LineFault<BadText>>
-        ensures taken { IfOk result (λ next. step_at (NextLine.FirstItem kind iaid) (reading_of self) line.now ≡ Some (reading_of next)) }
-        ensures bad { IfErr result (λ fault. Refuses (step_at (NextLine.FirstItem kind iaid) (reading_of self) line.now) (record {}) fault) }
+        ensures taken { IfOk result
+            (λ next. step_at (NextLine.FirstItem kind iaid) (reading_of self) line.now ≡ Some (reading_of next)) }
+        ensures bad { IfErr result
+            (λ fault. Refuses (step_at (NextLine.FirstItem kind iaid) (reading_of self) line.now)
+            (record {}) fault) }
     {
         let Some(rest) = strip_word(line, item_word(kind)) else {
             return Err(BAD);

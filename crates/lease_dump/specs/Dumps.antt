@@ -1,4 +1,5 @@
--- What a lease file says, as variables: a text that begins as one of DHCPv6 is read as such, and any other as one of DHCPv4.
+-- What a lease file says, as variables: a text that begins as one of DHCPv6 is read as such, and any other as one of
+-- DHCPv4.
 use Rattle.std.specs.Prelude.{ℕ, ◌≡◌, Bool, true, false, nat_eq, List, ◌++◌, flat_map, codes}
 use Rattle.std.specs.List.{starts_with}
 use Rattle.net_types.specs.declared.fault.BadText.{BadText}

@@ -60,8 +60,8 @@ fn dump6(alloc: Global, text: &[u8]) -> Result<Vec<HookVar>, DumpAnswer>
     }
 }
 
-/// The variables that hooks are told of the lease that a file holds, with `new_` before their names. The first word tells of which family
-/// it is: `dhcpcd-lease6` of DHCPv6, another one of DHCPv4. `BadLease` names the first bad line.
+/// The variables that hooks are told of the lease that a file holds, with `new_` before their names. The first word
+/// tells of which family it is: `dhcpcd-lease6` of DHCPv6, another one of DHCPv4. `BadLease` names the first bad line.
 pub fn dump(alloc: Global, text: &[u8]) -> Result<Vec<HookVar>, DumpAnswer>
     ensures ok { IfOk result (λ vars. IsDumped text.now (map variable_of vars.items)) }
     ensures bad { IfErr result (λ answer. IsBadLease text.now answer) }

@@ -80,7 +80,8 @@ values_in : (area : List ℕ) → Small area → Values (instances_in area)
 unfolding instances_in
 values_in area h = values_after 0 area h
 
-values_over : (overload : Overload) (options file sname : List ℕ) → Small options → Small file → Small sname → Values (instances_over overload options file sname)
+values_over : (overload : Overload) (options file sname : List ℕ) → Small options → Small file → Small sname
+    → Values (instances_over overload options file sname)
 values_over overload options file sname o f s =
     all_join _ _ _ (all_join _ (instances_in options) (if reads_file overload then instances_in file else []) (values_in options o)
     (gated Values (reads_file overload) (instances_in file) [] (values_in file f) tt))

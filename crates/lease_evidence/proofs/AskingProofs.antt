@@ -101,7 +101,9 @@ needs_request site addr now past none basis =
     let NotFor : Exchange4 → Type 0 = λ (x : Exchange4). x.address ≡ addr.ip → ⊥ in
     let open_so : Always (λ e earlier. OpenIs site NotFor (seen_in site (e ∷ earlier)).current) past =
     always_open site NotFor past
-    (always_all (λ e earlier. AsksFor addr.ip site e earlier → ⊥) (RequestsSo site NotFor) (λ e earlier not_asked request asks. not_asked (record { request = request; asks = asks })) past none) in
+    (always_all (λ e earlier. AsksFor addr.ip site e earlier → ⊥) (RequestsSo site NotFor)
+    (λ e earlier not_asked request asks. not_asked (record { request = request; asks = asks })) past none)
+    in
     never (CalmFor site basis.opened) (FirstAck site basis.opened basis.terms) (λ e earlier. OpenIs site NotFor (seen_in site (e ∷ earlier)).current)
     (λ e earlier n f.
     let g : Grants site (V4 addr) e earlier = grants site basis.opened basis.terms e earlier f.good (V4 addr) basis.gives in
@@ -117,8 +119,11 @@ lasts_from_request site addr now asked secs past early short over basis =
     (g : Grants site (V4 addr) e earlier) → (g.terms.lease ≢ INFINITE_LEASE) × (g.terms.lease ≤ secs) in
     let open_so : Always (λ e earlier. OpenIs site IsEarly (seen_in site (e ∷ earlier)).current) past =
     always_open site IsEarly past
-    (always_all (λ e earlier. AsksFor addr.ip site e earlier → e.moment ≤ asked) (RequestsSo site IsEarly) (λ e earlier so request asks. so (record { request = request; asks = asks })) past early) in
-    never (CalmFor site basis.opened) (FirstAck site basis.opened basis.terms) (λ e earlier. OpenIs site IsEarly (seen_in site (e ∷ earlier)).current × Short e earlier)
+    (always_all (λ e earlier. AsksFor addr.ip site e earlier → e.moment ≤ asked) (RequestsSo site IsEarly)
+    (λ e earlier so request asks. so (record { request = request; asks = asks })) past early)
+    in
+    never (CalmFor site basis.opened) (FirstAck site basis.opened basis.terms)
+    (λ e earlier. OpenIs site IsEarly (seen_in site (e ∷ earlier)).current × Short e earlier)
     (λ e earlier n f.
     let g : Grants site (V4 addr) e earlier = grants site basis.opened basis.terms e earlier f.good (V4 addr) basis.gives in
     let began : basis.opened.exchange.first ≤ asked =

@@ -63,8 +63,10 @@ HoldsNone local = held_in local.state ≡ None
 
 armed_none : (conf : IfConf) (at : ℕ) (iface : IfIndex) → HoldsNone (armed conf at (off iface))
 armed_none conf at iface =
-    gated HoldsNone (runs_dhcp4 conf) (armed_for_lease conf at (off iface)) (if chooses_local conf then ll_armed (off iface) at ForNothing Choose else off iface)
-    (gated HoldsNone (nat_eq conf.timeout 0) (off iface) (ll_armed (off iface) (at + SECOND * conf.timeout) ForLease (fallback_of (chooses_local conf))) refl refl)
+    gated HoldsNone (runs_dhcp4 conf) (armed_for_lease conf at (off iface))
+    (if chooses_local conf then ll_armed (off iface) at ForNothing Choose else off iface)
+    (gated HoldsNone (nat_eq conf.timeout 0) (off iface)
+    (ll_armed (off iface) (at + SECOND * conf.timeout) ForLease (fallback_of (chooses_local conf))) refl refl)
     (gated HoldsNone (chooses_local conf) (ll_armed (off iface) at ForNothing Choose) (off iface) refl refl)
 
 -- ---- an interface that holds nothing
@@ -125,7 +127,10 @@ module _ (b : Beginning) (up : Bool) where
         none = fresh.nothing.none;
         no_local = fresh.nothing.no_local;
         no_items = subst (λ (c : ClientContent). client6.held_of (carrier_turned Up at salt c).client ≡ None) (sym fresh.made)
-            (subst (λ (stands : Bool). client6.held_of (moved (begin_row (client6.turn_of at salt made6) stands (parting_begun at made6) Off) None (pruned at stands made6)) ≡ None)
+            (subst
+            (λ (stands : Bool). client6.held_of
+            (moved (begin_row (client6.turn_of at salt made6) stands (parting_begun at made6) Off) None (pruned at stands made6))
+            ≡ None)
             (sym (not_standing6 at plain)) (begun6 at salt made6));
       })
       fresh.nothing
@@ -163,7 +168,8 @@ module _ (b : Beginning) (at salt : ℕ) where
   none_stands None plain = tt
   none_stands (Some lease) (inl plain) = ap (λ (wished : Bool). if wished && true && is_some lease.origin then Some (terms_of lease) else None) plain
   none_stands (Some lease) (inr none) =
-      ap (λ (o : Option Origin). if b.managed.conf.persistent && true && is_some o then Some (terms_of lease) else None) none ∙ never b.managed.conf.persistent (terms_of lease)
+      ap (λ (o : Option Origin). if b.managed.conf.persistent && true && is_some o then Some (terms_of lease) else None) none
+      ∙ never b.managed.conf.persistent (terms_of lease)
 
   -- ---- DHCPv4 alone
 
@@ -197,7 +203,17 @@ module _ (b : Beginning) (at salt : ℕ) where
 
   still_so : (step : Step4) → held_of (dhcp4_step at lit step).iface.dhcp4 ≡ None → step.news ≡ news.Nothing → After step
   still_so step none silent = record {
-    fresh = record { nothing = record { managed_is = refl; up_is = refl; none = none; no_local = ap (λ n. held_in (followed b.managed.conf at (holds_lease lit) n lit.local).state) silent; no_items = refl }; made = refl };
+    fresh =
+        record {
+          nothing = record {
+            managed_is = refl;
+            up_is = refl;
+            none = none;
+            no_local = ap (λ n. held_in (followed b.managed.conf at (holds_lease lit) n lit.local).state) silent;
+            no_items = refl;
+          };
+          made = refl;
+        };
     still = ap (λ n. followed b.managed.conf at (holds_lease lit) n lit.local) silent;
   }
 
@@ -209,7 +225,8 @@ module _ (b : Beginning) (at salt : ℕ) where
 
   first_still : NoneStands → IsStill b true (begin_dhcp4 at salt lit).iface
   first_still none =
-      gated (λ (step : IfaceStep). IsStill b true step.iface) (runs_dhcp4 b.managed.conf) (dhcp4_step at lit (inputs.begins turn true (kept_terms lit.dhcp4))) (silent lit)
+      gated (λ (step : IfaceStep). IsStill b true step.iface) (runs_dhcp4 b.managed.conf) (dhcp4_step at lit (inputs.begins turn true (kept_terms lit.dhcp4)))
+      (silent lit)
       (still_so (inputs.begins turn true (kept_terms lit.dhcp4)) (begun4 b.kept4 none) (begins_silent (kept_terms lit.dhcp4)))
       (record {
         fresh = record { nothing = record { managed_is = refl; up_is = refl; none = refl; no_local = refl; no_items = refl }; made = refl };

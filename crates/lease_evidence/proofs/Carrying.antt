@@ -146,7 +146,8 @@ tick_carries site clean e past salt c mac early h =
     record {
       settings = h.settings;
       sound = moved_sound c (tick_step e.moment salt c) h.sound
-          (gated (IsSoundStep (kept_terms c) c.state) due _ _ (tick_sound (kept_terms c) turn c.state early h.sound.state) (rests_sound (kept_terms c) turn c.state h.sound.state));
+          (gated (IsSoundStep (kept_terms c) c.state) due _ _ (tick_sound (kept_terms c) turn c.state early h.sound.state)
+          (rests_sound (kept_terms c) turn c.state h.sound.state));
       fields = fits.state;
       names = own.names;
       say = fits.say;
@@ -211,7 +212,8 @@ module _ (site : Site) (clean : Type 0) (e : Entry) (past : List Entry) (one : S
   abbrev pub OfferedAll : Step4 → List Said → Type 0
   OfferedAll two after = Offered site.managed.spec (ask_of site.duid site.managed) clean (said_all one between two after) (offers_at site e)
 
-  module _ (two : Step4) (before : ClientContent) (after : List Said) (more_others : AreOther after) (settings : before.settings ≡ settings_of site.duid site.managed)
+  module _ (two : Step4) (before : ClientContent) (after : List Said) (more_others : AreOther after)
+      (settings : before.settings ≡ settings_of site.duid site.managed)
       (sound : IsSound (moved two before)) (fits : FitsStep two) (own : OwnStepOf c.settings.site two) (offers : OfferedAll two after) where
     own_so : AllByRecursion (OwnSaid (speaker_of site.managed)) (said_all one between two after)
     own_so =
@@ -220,7 +222,8 @@ module _ (site : Site) (clean : Type 0) (e : Entry) (past : List Entry) (one : S
 
     messages : messages_at site e ≡ map message_said (said_all one between two after)
     messages =
-        messages_are site (subst (λ (s : SettingsContent). AskFits s.ask) amid.settings amid.sound.ask) mac clean (said_all one between two after) (offers_at site e) offers
+        messages_are site (subst (λ (s : SettingsContent). AskFits s.ask) amid.settings amid.sound.ask) mac clean (said_all one between two after)
+        (offers_at site e) offers
         (all_fit e.moment one two between after others more_others amid.say fits.say) own_so
 
     seen_now : seen_in site (e ∷ past) ≡ shows e.moment (message_in two) seen_amid
@@ -265,7 +268,9 @@ module _ (site : Site) (clean : Type 0) (e : Entry) (past : List Entry) (one : S
     watched_now stays w =
         let after_seen : Seen = shows e.moment (message_in two) seen_amid in
         let w1 : WatchedBy after_seen true (tells_end (message_in one) || tells_end (message_in two)) =
-        subst (λ (g : Option Grant). Watched (Lasts e.moment) two.last two.state after_seen (hears reply after_seen.current (kept (kept_in site past).answered g)))
+        subst
+        (λ (g : Option Grant). Watched (Lasts e.moment) two.last two.state after_seen
+        (hears reply after_seen.current (kept (kept_in site past).answered g)))
         (or_ends (tells_end (message_in one)) (tells_end (message_in two)) (kept_in site past).grant) w in
         let w2 : WatchedBy after_seen true (ended_at site e) = subst (λ b. WatchedBy after_seen true b) (sym ended_now) w1 in
         let w3 : WatchedBy after_seen (stays_at site e past) (ended_at site e) = subst (λ b. WatchedBy after_seen b (ended_at site e)) (sym stays) w2 in
@@ -289,6 +294,10 @@ module _ (site : Site) (clean : Type 0) (e : Entry) (past : List Entry) (one : S
         finish
         (record {
           xid = subst (λ (s : Seen). LastXid two.last s.current) (sym seen_now) w.xid;
-          on = subst (λ (state : State4). On (Lasts e.moment) state (seen_in site (e ∷ past)).current (kept_in site (e ∷ past)).answered (kept_in site (e ∷ past)).grant) (sym off) tt;
+          on =
+              subst
+              (λ (state : State4). On (Lasts e.moment) state (seen_in site (e ∷ past)).current (kept_in site (e ∷ past)).answered
+              (kept_in site (e ∷ past)).grant)
+              (sym off) tt;
         })
         (subst (λ (state : State4). Bears site clean state (e ∷ past)) (sym off) tt) s

@@ -56,7 +56,8 @@ lost_goes site e earlier loses goes = lost_by (has_carrier site earlier) (index_
 
 pub given_goes : (site : Site) (e : Entry) (earlier : List Entry) → IsGivenBack site e earlier → StaysOn site e earlier → ⊥
 given_goes site e earlier given goes =
-    let other : GoesOn (has_carrier site earlier) (index_at site) (Release (index_at site)) = subst (GoesOn (has_carrier site earlier) (index_at site)) given goes in
+    let other : GoesOn (has_carrier site earlier) (index_at site) (Release (index_at site)) =
+    subst (GoesOn (has_carrier site earlier) (index_at site)) given goes in
     other refl
 
 pub stop_goes : (site : Site) (e : Entry) (earlier : List Entry) → IsToldToStop site e earlier → StaysOn site e earlier → ⊥
@@ -72,7 +73,8 @@ ack_frame site opened terms e earlier good =
 lost_grants : (site : Site) (net : Net) (e : Entry) (earlier : List Entry) → LosesCarrier site e earlier → Grants site net e earlier → ⊥
 lost_grants site net e earlier loses g =
     let frame = ack_frame site g.opened g.terms e earlier g.good in
-    let still : has_carrier site earlier ≡ false = subst (λ (event : Event). carrier_after (index_at site) event (has_carrier site earlier) ≡ false) frame.1 loses.lost in
+    let still : has_carrier site earlier ≡ false =
+    subst (λ (event : Event). carrier_after (index_at site) event (has_carrier site earlier) ≡ false) frame.1 loses.lost in
     differ (has_carrier site earlier) loses.had still
   where
     differ : (b : Bool) → b ≡ true → b ≡ false → ⊥
@@ -80,7 +82,8 @@ lost_grants site net e earlier loses g =
     differ false t f = absurd cc
 
 given_grants : (site : Site) (net : Net) (e : Entry) (earlier : List Entry) → IsGivenBack site e earlier → Grants site net e earlier → ⊥
-given_grants site net e earlier given g = let frame = ack_frame site g.opened g.terms e earlier g.good in unlike (index_at site) (index_at site) frame.0 (sym given ∙ frame.1)
+given_grants site net e earlier given g =
+    let frame = ack_frame site g.opened g.terms e earlier g.good in unlike (index_at site) (index_at site) frame.0 (sym given ∙ frame.1)
   where
     unlike : (i j len : ℕ) → Release i ≡ Frame j len → ⊥
     unlike i j len h = cc
@@ -144,7 +147,8 @@ are_older site (e ∷ past) opened is =
     )
 
 -- a grant of an exchange that is older, or had no ACK
-older_ack : (site : Site) (opened refused : Numbered) (terms : Terms4) (C : Entry → List Entry → Type 0) (past : List Entry) → Always (IsOlder site refused) past → Always (GrantsNothing site refused) past
+older_ack : (site : Site) (opened refused : Numbered) (terms : Terms4) (C : Entry → List Entry → Type 0) (past : List Entry)
+    → Always (IsOlder site refused) past → Always (GrantsNothing site refused) past
     → Since C (FirstAck site opened terms) past → opened.number < refused.number
 older_ack site opened refused terms C [] older none h = absurd h
 older_ack site opened refused terms C (e ∷ past) older none h = elim h [
@@ -160,10 +164,12 @@ ends_by_nak site net now later e earlier refused no_more basis =
     elim (stands_there site net now later e earlier basis no_more) [
       | inl f ↦ (
           let same : basis.opened ≡ refused.opened = one_is basis.opened refused.opened (sym f.good.is_open ∙ refused.is_open) in
-          let nak : reply_at site basis.opened.exchange e ≡ answer.Nak = subst (λ (x : Numbered). reply_at site x.exchange e ≡ answer.Nak) (sym same) refused.says in
+          let nak : reply_at site basis.opened.exchange e ≡ answer.Nak =
+          subst (λ (x : Numbered). reply_at site x.exchange e ≡ answer.Nak) (sym same) refused.says in
           unlike basis.terms (sym f.good.grants ∙ nak))
       | inr on ↦ on.0.no_nak refused.opened (record { is_open = refused.is_open; refuses = refused.says })
-          (older_ack site basis.opened refused.opened basis.terms (CalmFor site basis.opened) earlier (are_older site (e ∷ earlier) refused.opened refused.is_open).1 refused.unanswered on.1)
+          (older_ack site basis.opened refused.opened basis.terms (CalmFor site basis.opened) earlier
+          (are_older site (e ∷ earlier) refused.opened refused.is_open).1 refused.unanswered on.1)
     ]
   where
     unlike : (terms : Terms4) → answer.Ack terms ≡ answer.Nak → ⊥
@@ -171,25 +177,31 @@ ends_by_nak site net now later e earlier refused no_more basis =
 
 pub newest_counts : NewestCounts
 newest_counts site net now later e earlier terms granted no_other basis =
-    elim (since_cut (CalmFor site basis.opened) (FirstAck site basis.opened basis.terms) (GrantsNoOther site granted.opened) (e ∷ earlier) not_later later no_other basis.granted) [
+    elim
+    (since_cut (CalmFor site basis.opened) (FirstAck site basis.opened basis.terms) (GrantsNoOther site granted.opened)
+    (e ∷ earlier) not_later later no_other basis.granted) [
       | inl f ↦ (
           let same : basis.opened ≡ granted.opened = one_is basis.opened granted.opened (sym f.good.is_open ∙ granted.is_open) in
-          let ack : reply_at site basis.opened.exchange e ≡ answer.Ack terms = subst (λ (x : Numbered). reply_at site x.exchange e ≡ answer.Ack terms) (sym same) granted.says in
+          let ack : reply_at site basis.opened.exchange e ≡ answer.Ack terms =
+          subst (λ (x : Numbered). reply_at site x.exchange e ≡ answer.Ack terms) (sym same) granted.says in
           let agreed : basis.terms ≡ terms = one_terms basis.terms terms (sym f.good.grants ∙ ack) in
           record {
             gives = basis.gives ∙ ap (λ (t : Terms4). V4 t.net) agreed;
             lasts = λ over.
-                let over_so : IsOver basis.opened basis.terms now = subst (λ (x : Numbered). IsOver x basis.terms now) (sym same) (subst (λ (t : Terms4). IsOver granted.opened t now) (sym agreed) over) in
+                let over_so : IsOver basis.opened basis.terms now =
+                subst (λ (x : Numbered). IsOver x basis.terms now) (sym same) (subst (λ (t : Terms4). IsOver granted.opened t now) (sym agreed) over) in
                 lasts_not basis.opened.exchange.first basis.terms.lease now over_so.ends over_so.over basis.unexpired;
           })
       | inr on ↦ absurd (on.0.no_ack granted.opened terms (record { is_open = granted.is_open; grants = granted.says })
-          (older_ack site basis.opened granted.opened basis.terms (CalmFor site basis.opened) earlier (are_older site (e ∷ earlier) granted.opened granted.is_open).1 granted.unanswered on.1))
+          (older_ack site basis.opened granted.opened basis.terms (CalmFor site basis.opened) earlier
+          (are_older site (e ∷ earlier) granted.opened granted.is_open).1 granted.unanswered on.1))
     ]
   where
     one_terms : (a b : Terms4) → answer.Ack a ≡ answer.Ack b → a ≡ b
     one_terms a b h = cc
 
-    not_later : (x : Entry) (between : List Entry) → GrantsNoOther site granted.opened x (between ++ e ∷ earlier) → FirstAck site basis.opened basis.terms x (between ++ e ∷ earlier) → ⊥
+    not_later : (x : Entry) (between : List Entry) → GrantsNoOther site granted.opened x (between ++ e ∷ earlier)
+        → FirstAck site basis.opened basis.terms x (between ++ e ∷ earlier) → ⊥
     not_later x between alone f =
         let same : basis.opened ≡ granted.opened = alone basis.opened basis.terms f.good in
         let none : Always (GrantsNothing site basis.opened) (e ∷ earlier) = always_cut (GrantsNothing site basis.opened) between (e ∷ earlier) f.first in

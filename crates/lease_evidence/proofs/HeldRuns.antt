@@ -87,14 +87,18 @@ module _ (own : List Mac) (beginning : Beginning) (fits : FitsBeginning beginnin
 
   turned : (mets : List Met) → IsLived own beginning opening mets → Turned site (Clean mets) (iface mets) (said_last mets) (shown opening mets)
   turned [] lived =
-      opens_leased own (Clean []) opening.at opening.salt lived.0 opening.offers beginning fits.managed fits.duid (has_text beginning.kept4 fits.kept4 typed) (is_up opening.up managed.spec.index.number)
+      opens_leased own (Clean []) opening.at opening.salt lived.0 opening.offers beginning fits.managed fits.duid (has_text beginning.kept4 fits.kept4 typed)
+      (is_up opening.up managed.spec.index.number)
       (offered managed.spec (ask_of beginning.duid managed) (Clean []) (opens beginning opening).said (offers_at site (opening_entry opening)) lived.1 (λ k. k))
   turned (met ∷ mets) lived =
       let before : Leased site (is_in met.turn.unsent (index_of (iface mets)) ≡ false) (iface mets) (shown opening mets) =
-      subst (λ (n : ℕ). Leased site (is_in met.turn.unsent n ≡ false) (iface mets) (shown opening mets)) (ap (λ (m : Managed). m.spec.index.number) (sym (same_managed mets)))
+      subst (λ (n : ℕ). Leased site (is_in met.turn.unsent n ≡ false) (iface mets) (shown opening mets))
+      (ap (λ (m : Managed). m.spec.index.number) (sym (same_managed mets)))
       (subst (λ (b : Bool). Leased site (b ≡ false) (iface mets) (shown opening mets)) (sym lived.2) (turned mets lived.4).leased) in
-      turn_leased site fits.managed (Clean (met ∷ mets)) met.turn.salt (entry_of met) lived.0 lived.1 (shown opening mets) met.turn.unsent (iface mets) (same_managed mets) before
-      (offered managed.spec (ask_of beginning.duid managed) (Clean (met ∷ mets)) (iface_turned own met.turn (iface mets)).said (offers_at site (entry_of met)) lived.3 (λ k. k))
+      turn_leased site fits.managed (Clean (met ∷ mets)) met.turn.salt (entry_of met) lived.0 lived.1 (shown opening mets) met.turn.unsent (iface mets)
+      (same_managed mets) before
+      (offered managed.spec (ask_of beginning.duid managed) (Clean (met ∷ mets)) (iface_turned own met.turn (iface mets)).said
+      (offers_at site (entry_of met)) lived.3 (λ k. k))
 
 -- Each message of DHCPv4 that an interface says is in range: in its opening, and in each turn.
 pub opening_said_fits : (own : List Mac) (beginning : Beginning) (opening : Opening) → FitsBeginning beginning → KeepsTyped beginning
@@ -117,7 +121,8 @@ turn_said_own own beginning opening met mets fits typed lived = (turned own begi
 
 pub held_leases_have_basis : HeldLeasesHaveBasis
 held_leases_have_basis own beginning opening mets lease fits typed lived held =
-    lease_has_basis (site_of own beginning opening) (failed_last (site_of own beginning opening) (shown opening mets) ≡ false) (iface_after own beginning opening mets)
+    lease_has_basis (site_of own beginning opening) (failed_last (site_of own beginning opening) (shown opening mets) ≡ false)
+    (iface_after own beginning opening mets)
     (shown opening mets) lease (turned own beginning fits typed opening mets lived).leased held
 
 -- and the lease is as it was granted, or it is the kept one
@@ -125,5 +130,6 @@ pub held_leases_rest : (own : List Mac) (beginning : Beginning) (opening : Openi
     → KeepsTyped beginning → IsLived own beginning opening mets → held_of (iface_after own beginning opening mets).dhcp4 ≡ Some lease
     → Rests (site_of own beginning opening) lease (shown opening mets)
 held_leases_rest own beginning opening mets lease fits typed lived held =
-    lease_rests (site_of own beginning opening) (failed_last (site_of own beginning opening) (shown opening mets) ≡ false) (iface_after own beginning opening mets)
+    lease_rests (site_of own beginning opening) (failed_last (site_of own beginning opening) (shown opening mets) ≡ false)
+    (iface_after own beginning opening mets)
     (shown opening mets) lease (turned own beginning fits typed opening mets lived).leased held

@@ -32,6 +32,7 @@ lease_carried Counted = record {
       (turn_leased site fits clean salt e early octets.0 past unsent f same (before fits is octets.1) shows.offered).leased;
 }
 
-pub lease_based : (site : Site) (clean : Type 0) (f : Iface) (past : List Entry) → f.managed ≡ site.managed → FitsManaged site.managed → IsDuid site.duid → HearBytes past
+pub lease_based : (site : Site) (clean : Type 0) (f : Iface) (past : List Entry) → f.managed ≡ site.managed → FitsManaged site.managed → IsDuid site.duid
+    → HearBytes past
     → LeaseRelation site clean f past → (lease : LeaseContent) → held_of f.dhcp4 ≡ Some lease → LeaseRests site (V4 lease.net) (now_in past) past
 lease_based site clean f past same fits is octets carries lease held = lease_has_basis site clean f past lease (carries fits is octets) held

@@ -73,7 +73,8 @@ plain_leases_as_granted own beginning opening mets lease fits typed lived plain 
 
 -- ---- the carrier, a release and a stop
 
-stays_there : (site : Site) (net : Net) (now : ℕ) (later : List Entry) (e : Entry) (earlier : List Entry) → KeptBasis4 site net now (later ++ e ∷ earlier) → StaysOn site e earlier
+stays_there : (site : Site) (net : Net) (now : ℕ) (later : List Entry) (e : Entry) (earlier : List Entry) → KeptBasis4 site net now (later ++ e ∷ earlier)
+    → StaysOn site e earlier
 stays_there site net now later e earlier basis = (always_cut (StaysOn site) later (e ∷ earlier) basis.stays).0
 
 pub kept_ends_by_loss : KeptEndsBy LosesCarrier
@@ -92,7 +93,8 @@ all_of P f [] all = tt
 all_of P f (x ∷ xs) all = (all.0, all_of P f xs all.1)
 
 -- each message asks for the address again
-asks_said : (site : Site) (kind : Kind4) (xid : ℕ) (address : Ip4) (e : Entry) (earlier : List Entry) → AsksAlone site xid address e earlier → (says : Says kind site e earlier)
+asks_said : (site : Site) (kind : Kind4) (xid : ℕ) (address : Ip4) (e : Entry) (earlier : List Entry) → AsksAlone site xid address e earlier
+    → (says : Says kind site e earlier)
     → AsksAgain xid address says.sent
 asks_said site kind xid address e earlier alone says =
     let Asks : Option Sent4 → Type 0 = λ (message : Option Sent4). IfSome message (AsksAgain xid address) in
@@ -100,15 +102,18 @@ asks_said site kind xid address e earlier alone says =
     (All-contains (λ (o : Offer). Asks (message_of site o)) (offers_at site e) says.offer
     (All-from_recursion (λ (o : Offer). Asks (message_of site o)) (offers_at site e) (all_of Asks (message_of site) (offers_at site e) alone)) says.among)
 
-module _ (site : Site) (net : Net) (now : ℕ) (later : List Entry) (e : Entry) (earlier : List Entry) (basis : KeptBasis4 site net now (later ++ e ∷ earlier)) where
+module _ (site : Site) (net : Net) (now : ℕ) (later : List Entry) (e : Entry) (earlier : List Entry)
+    (basis : KeptBasis4 site net now (later ++ e ∷ earlier)) where
   asks_there : (kind : Kind4) (says : Says kind site e earlier) → AsksAgain basis.xid basis.lease.net.ip says.sent
   asks_there kind says =
-      asks_said site kind basis.xid basis.lease.net.ip e earlier (always_cut (AsksAlone site basis.xid basis.lease.net.ip) later (e ∷ earlier) basis.asks).0 says
+      asks_said site kind basis.xid basis.lease.net.ip e earlier
+      (always_cut (AsksAlone site basis.xid basis.lease.net.ip) later (e ∷ earlier) basis.asks).0 says
 
   asks_before : (before : List Entry) (f : Entry) (rest : List Entry) → earlier ≡ before ++ f ∷ rest → (says : Says Request site f rest)
       → AsksAgain basis.xid basis.lease.net.ip says.sent
   asks_before before f rest cut says =
-      let there : Always (AsksAlone site basis.xid basis.lease.net.ip) earlier = (always_cut (AsksAlone site basis.xid basis.lease.net.ip) later (e ∷ earlier) basis.asks).1 in
+      let there : Always (AsksAlone site basis.xid basis.lease.net.ip) earlier =
+      (always_cut (AsksAlone site basis.xid basis.lease.net.ip) later (e ∷ earlier) basis.asks).1 in
       asks_said site Request basis.xid basis.lease.net.ip f rest
       (always_cut (AsksAlone site basis.xid basis.lease.net.ip) before (f ∷ rest)
       (subst (λ (turns : List Entry). Always (AsksAlone site basis.xid basis.lease.net.ip) turns) cut there)).0 says
@@ -122,7 +127,9 @@ kept_ends_by_server site net now later e earlier named basis = named.server (ask
 
 pub needs_one_exchange : NeedsOneExchange
 needs_one_exchange site net now later e earlier last before f rest cut first apart basis =
-    apart ((asks_before site net now later e earlier basis before f rest cut first).same_xid ∙ sym (asks_there site net now later e earlier basis Request last).same_xid)
+    apart
+    ((asks_before site net now later e earlier basis before f rest cut first).same_xid
+    ∙ sym (asks_there site net now later e earlier basis Request last).same_xid)
 
 none_spoke : (site : Site) (past : List Entry) → Always (λ e earlier. speaks site e ≡ false) past → list_any (speaks site) past ≡ false
 none_spoke site [] h = refl

@@ -40,7 +40,8 @@ granting_by site opened terms e None is h = absurd cc
 granting_by site opened terms e (Some arrival) is h =
     record { arrival = arrival; came = is; granted = is_granted (settings_of site.duid site.managed) opened.exchange arrival terms h }
 
-pub granting : (site : Site) (opened : Numbered) (terms : Terms4) (e : Entry) (past : List Entry) → GoodAck site opened terms e past → Granting site opened terms e
+pub granting : (site : Site) (opened : Numbered) (terms : Terms4) (e : Entry) (past : List Entry) → GoodAck site opened terms e past
+    → Granting site opened terms e
 granting site opened terms e past good = granting_by site opened terms e (arrival_in site e) refl good.grants
 
 abbrev pub grants : (site : Site) (opened : Numbered) (terms : Terms4) (e : Entry) (past : List Entry) → GoodAck site opened terms e past

@@ -128,7 +128,8 @@ pub record IsFaced (settings : Managed) (has_carrier_now was_stopped : Bool) (g 
 
 -- ---- the input of a turn
 
-module _ (site : Site) (mac : sent.FitsMac site.managed.spec.mac) (clean : Type 0) (at salt : ℕ) (early : at < 10 ^ 15) (bytes : List ℕ) (octets : AreBytes bytes)
+module _ (site : Site) (mac : sent.FitsMac site.managed.spec.mac) (clean : Type 0) (at salt : ℕ) (early : at < 10 ^ 15) (bytes : List ℕ)
+    (octets : AreBytes bytes)
     (offers : List Offer) (past : List Entry) where
   abbrev pub entry : Event → Entry
   entry event = record { moment = at; event = event; bytes = bytes; offers = offers }
@@ -149,7 +150,8 @@ module _ (site : Site) (mac : sent.FitsMac site.managed.spec.mac) (clean : Type 
 
   -- where DHCPv4 alone made a step
   perhaps_faced : (up stopped : Bool) (c : ClientContent) (rest : Iface) (step : Step4)
-      → IsFaced site.managed up stopped (if runs_dhcp4 site.managed.conf then dhcp4_step at (face up stopped c rest) step else silent (face up stopped c rest)).iface
+      → IsFaced site.managed up stopped
+      (if runs_dhcp4 site.managed.conf then dhcp4_step at (face up stopped c rest) step else silent (face up stopped c rest)).iface
   perhaps_faced up stopped c rest step =
       gated (λ (step : IfaceStep). IsFaced site.managed up stopped step.iface) (runs_dhcp4 site.managed.conf) (dhcp4_step at (face up stopped c rest) step)
       (silent (face up stopped c rest)) (record { managed = refl; up = refl; stopped = refl }) (record { managed = refl; up = refl; stopped = refl })
@@ -173,7 +175,8 @@ module _ (site : Site) (mac : sent.FitsMac site.managed.spec.mac) (clean : Type 
 
   -- ---- the client
 
-  module _ (event : Event) (one : Step4) (between : List Said) (others : AreOther between) (c : ClientContent) (amid : Amid site clean (entry event) past one c) where
+  module _ (event : Event) (one : Step4) (between : List Said) (others : AreOther between) (c : ClientContent)
+      (amid : Amid site clean (entry event) past one c) where
     abbrev said : List Said
     said = said_in one ++ between
 
@@ -220,7 +223,8 @@ module _ (site : Site) (mac : sent.FitsMac site.managed.spec.mac) (clean : Type 
     stands_by : (row : State4 → Step4) → row Off ≡ rests turn Off
         → standing.AfterInput site e past (message_in one) c.settings.site.iface.name c.fresh c.kept (row c.state)
         → ShowsBoth site e past (message_in one) (message_in (row c.state)) → StandsSo site (e ∷ past) (moved (row c.state) c)
-    stands_by row quiet on = standing.input_stands site e past (message_in one) c.settings.site.iface.name c.fresh c.kept turn row quiet c.may_stand c.state amid.stands on
+    stands_by row quiet on =
+        standing.input_stands site e past (message_in one) c.settings.site.iface.name c.fresh c.kept turn row quiet c.may_stand c.state amid.stands on
 
     -- ---- steps of the client
 
@@ -230,7 +234,8 @@ module _ (site : Site) (mac : sent.FitsMac site.managed.spec.mac) (clean : Type 
         calm_finish site clean e past one c amid mac between others (rests turn c.state) c after more_others amid.settings amid.sound
         (record { state = amid.fields; say = tt }) (rests_own turn c.state amid.names) h stays
         (silent_heard site clean e past one c amid mac between others (rests turn c.state) (silent_reply none) amid.watched)
-        (probes.rests_bears site (ask_of site.duid site.managed) clean e past (said_in one) (between ++ after) (tells_end (message_in one)) (bracket after h) turn no_arp c.state amid.bears)
+        (probes.rests_bears site (ask_of site.duid site.managed) clean e past (said_in one) (between ++ after) (tells_end (message_in one))
+        (bracket after h) turn no_arp c.state amid.bears)
         (stands_by (rests turn) refl
         (standing.rests_on site e past (message_in one) c.settings.site.iface.name c.fresh c.kept turn c.state (no_nak none) amid.stands.stands))
 
@@ -259,25 +264,31 @@ module _ (site : Site) (mac : sent.FitsMac site.managed.spec.mac) (clean : Type 
     -- a message
     heard_listed : (message : HeardMessage) → heard.FitsHeard message → stays_at site e past ≡ true → message_on site event bytes ≡ Some message
         → arp_on (index_at site) event bytes ≡ None
-        → Goes (said_in (heard_step salt (arrival_at at message) c) ++ []) (moved (heard_step salt (arrival_at at message) c) (brought (arrival_at at message) c))
+        → Goes (said_in (heard_step salt (arrival_at at message) c) ++ [])
+        (moved (heard_step salt (arrival_at at message) c) (brought (arrival_at at message) c))
     heard_listed message good stays is no_arp h =
         let arrival : Arrival = arrival_at at message in
         let two : Step4 = heard_step salt arrival c in
         let answers = answer_fits c.settings arrival c.state early amid.sound.state in
         calm_finish site clean e past one c amid mac between others two (brought arrival c) [] tt amid.settings
         (moved_sound (brought arrival c) two
-        (brought_sound c (answer_to arrival c) (kept_values c.settings.refused arrival.message.instances) amid.sound (values_fit c.settings.refused arrival.message.instances))
+        (brought_sound c (answer_to arrival c) (kept_values c.settings.refused arrival.message.instances) amid.sound
+        (values_fit c.settings.refused arrival.message.instances))
         (heard_sound (kept_terms c) turn (answer_to arrival c) c.state early amid.sound.state answers))
         (fields.heard_fits turn (turn_mac site mac c amid.settings) c.settings arrival (good.message _) good.source c.state answers amid.fields)
         (heard_own turn (answer_to arrival c) c.state amid.names) h stays
-        (subst (λ (came : Option HeardMessage). HeardAfter at (λ exchange. reply_by (settings_of site.duid site.managed) exchange (option_map (arrival_at at) came)) seen_so kept_so two) (sym is)
+        (subst
+        (λ (came : Option HeardMessage). HeardAfter at
+        (λ exchange. reply_by (settings_of site.duid site.managed) exchange (option_map (arrival_at at) came)) seen_so kept_so two)
+        (sym is)
         (subst (λ (s : SettingsContent). HeardAfter at (λ exchange. reply_in s arrival exchange) seen_so kept_so two) amid.settings
         (heard_watched c.settings arrival turn refl seen_so.count kept_so within_so seen_so.current c.state amid.watched.xid amid.watched.on)))
         (probes.heard_bears site (ask_of site.duid site.managed) clean e past (said_in one) (between ++ (said_in two ++ [])) (tells_end (message_in one))
         (bracket (said_in two ++ []) h) c.settings arrival turn (turn_noarp site c amid.settings) no_arp c.state amid.bears)
         (standing.input_stands site e past (message_in one) c.settings.site.iface.name (brought arrival c).fresh c.kept turn
         (λ state. heard_row turn (answer_of c.settings arrival state) state) refl c.may_stand c.state amid.stands
-        (standing.heard_on site e past (message_in one) c.settings.site.iface.name (brought arrival c).fresh c.kept c.settings arrival turn (replies_so arrival message refl is)
+        (standing.heard_on site e past (message_in one) c.settings.site.iface.name (brought arrival c).fresh c.kept c.settings arrival turn
+        (replies_so arrival message refl is)
         (Lasts at) kept_so.answered kept_so.grant c.state amid.watched.on amid.stands.stands))
 
     heard_message : (message : HeardMessage) → heard.FitsHeard message → stays_at site e past ≡ true → message_on site event bytes ≡ Some message
@@ -285,10 +296,12 @@ module _ (site : Site) (mac : sent.FitsMac site.managed.spec.mac) (clean : Type 
         → Goes (said_in (heard_step salt (arrival_at at message) c)) (moved (heard_step salt (arrival_at at message) c) (brought (arrival_at at message) c))
     heard_message message good stays is no_arp =
         let two : Step4 = heard_step salt (arrival_at at message) c in
-        subst (λ (more : List Said). Goes more (moved two (brought (arrival_at at message) c))) (append-nil (said_in two)) (heard_listed message good stays is no_arp)
+        subst (λ (more : List Said). Goes more (moved two (brought (arrival_at at message) c))) (append-nil (said_in two))
+        (heard_listed message good stays is no_arp)
 
     -- the client begins
-    begun : (after : List Said) → AreOther after → stays_at site e past ≡ true → has_carrier site (e ∷ past) ≡ true → Silent → arp_on (index_at site) event bytes ≡ None
+    begun : (after : List Said) → AreOther after → stays_at site e past ≡ true → has_carrier site (e ∷ past) ≡ true → Silent
+        → arp_on (index_at site) event bytes ≡ None
         → Goes (said_in (carrier_step Up at salt c) ++ after) (moved (carrier_step Up at salt c) c)
     begun after more_others stays up_now none no_arp h =
         let two : Step4 = carrier_step Up at salt c in
@@ -301,12 +314,14 @@ module _ (site : Site) (mac : sent.FitsMac site.managed.spec.mac) (clean : Type 
         (begin_watched turn seen_so.count seen_so.current kept_so within_so amid.watched.xid c.may_stand (kept_terms c) c.state amid.watched.on))
         (probes.begin_bears site (ask_of site.duid site.managed) clean e past (said_in one) (between ++ (said_in two ++ after)) (tells_end (message_in one))
         (bracket (said_in two ++ after) h) turn no_arp c.may_stand (kept_terms c) c.state amid.bears)
-        (standing.begin_stands site e past (message_in one) c.settings.site.iface.name c.fresh c.kept turn (begin_row turn c.may_stand (kept_terms c)) refl c.may_stand c.state amid.stands
+        (standing.begin_stands site e past (message_in one) c.settings.site.iface.name c.fresh c.kept turn
+        (begin_row turn c.may_stand (kept_terms c)) refl c.may_stand c.state amid.stands
         (standing.begin_on site e past (message_in one) c.settings.site.iface.name c.fresh c.kept turn (no_nak none) (turn_flag site c amid.settings) up_now
         c.may_stand c.state amid.stands.stands amid.stands.may_stand))
 
     -- it confirms its lease anew
-    confirmed : (after : List Said) → AreOther after → stays_at site e past ≡ true → has_carrier site (e ∷ past) ≡ true → Silent → arp_on (index_at site) event bytes ≡ None
+    confirmed : (after : List Said) → AreOther after → stays_at site e past ≡ true → has_carrier site (e ∷ past) ≡ true → Silent
+        → arp_on (index_at site) event bytes ≡ None
         → Goes (said_in (rebind_step at salt c) ++ after) (moved (rebind_step at salt c) c)
     confirmed after more_others stays up_now none no_arp h =
         let two : Step4 = rebind_step at salt c in
@@ -318,8 +333,10 @@ module _ (site : Site) (mac : sent.FitsMac site.managed.spec.mac) (clean : Type 
         (rebind_watched turn seen_so.count seen_so.current kept_so within_so amid.watched.xid (kept_terms c) c.state amid.watched.on))
         (probes.rebind_bears site (ask_of site.duid site.managed) clean e past (said_in one) (between ++ (said_in two ++ after)) (tells_end (message_in one))
         (bracket (said_in two ++ after) h) turn no_arp (kept_terms c) c.state amid.bears)
-        (standing.begin_stands site e past (message_in one) c.settings.site.iface.name c.fresh c.kept turn (rebind_row turn (kept_terms c)) refl c.may_stand c.state amid.stands
-        (standing.rebind_on site e past (message_in one) c.settings.site.iface.name c.fresh c.kept turn (no_nak none) (turn_flag site c amid.settings) up_now c.state amid.stands.stands))
+        (standing.begin_stands site e past (message_in one) c.settings.site.iface.name c.fresh c.kept turn
+        (rebind_row turn (kept_terms c)) refl c.may_stand c.state amid.stands
+        (standing.rebind_on site e past (message_in one) c.settings.site.iface.name c.fresh c.kept turn (no_nak none)
+        (turn_flag site c amid.settings) up_now c.state amid.stands.stands))
 
     -- it is off
     dropped : (after : List Said) → AreOther after → Goes (said_in (carrier_step Down at salt c) ++ after) (moved (carrier_step Down at salt c) c)
@@ -330,16 +347,19 @@ module _ (site : Site) (mac : sent.FitsMac site.managed.spec.mac) (clean : Type 
         (off_watched turn seen_so.count seen_so.current kept_so within_so amid.watched.xid)
         (standing.spent_stands site e past (message_in one) c.settings.site.iface.name c.fresh c.kept two c.may_stand refl tt)
 
-    stopped_by : (tell : Tell) (after : List Said) → AreOther after → Goes (said_in (release_step tell at salt c) ++ after) (moved (release_step tell at salt c) c)
+    stopped_by : (tell : Tell) (after : List Said) → AreOther after
+        → Goes (said_in (release_step tell at salt c) ++ after) (moved (release_step tell at salt c) c)
     stopped_by tell after more_others h =
         let two : Step4 = release_step tell at salt c in
         off_finish site clean e past one c amid mac between others two c after more_others amid.settings
-        (moved_sound c two amid.sound (release_sound (kept_terms c) turn tell c.state)) (fields.release_fits turn (turn_mac site mac c amid.settings) tell c.state amid.fields)
+        (moved_sound c two amid.sound (release_sound (kept_terms c) turn tell c.state))
+        (fields.release_fits turn (turn_mac site mac c amid.settings) tell c.state amid.fields)
         (release_own turn tell c.state amid.sound.state) h
         (probes.stops turn tell c.state)
         (release_watched turn seen_so.count seen_so.current kept_so within_so amid.watched.xid tell c.state)
         (standing.spent_stands site e past (message_in one) c.settings.site.iface.name c.fresh c.kept two c.may_stand (probes.stops_spend turn tell c.state)
-        (subst (λ (s : State4). StandsIn site (e ∷ past) s (kept_after two.keep c.settings.site.iface.name c.fresh c.kept)) (sym (probes.stops turn tell c.state)) tt))
+        (subst (λ (s : State4). StandsIn site (e ∷ past) s (kept_after two.keep c.settings.site.iface.name c.fresh c.kept))
+        (sym (probes.stops turn tell c.state)) tt))
 
     -- a client that is off hears nothing
     rests_off : c.state ≡ Off → is_stopped past ≡ true → Goes [] c
@@ -378,12 +398,14 @@ module _ (site : Site) (mac : sent.FitsMac site.managed.spec.mac) (clean : Type 
       then_dhcp6 turned = spoken (said6_in first.iface turned.out) (are_dhcp6 first.iface turned.out mac_is)
 
       if_dhcp6 : (turned : Turned6) → Followed (if runs_dhcp6 first.iface.managed.conf then dhcp6_step first.iface turned else silent first.iface)
-      if_dhcp6 turned = gated Followed (runs_dhcp6 first.iface.managed.conf) (dhcp6_step first.iface turned) (silent first.iface) (then_dhcp6 turned) (spoken [] tt)
+      if_dhcp6 turned =
+          gated Followed (runs_dhcp6 first.iface.managed.conf) (dhcp6_step first.iface turned) (silent first.iface) (then_dhcp6 turned) (spoken [] tt)
 
     mac_so : (up stopped : Bool) (g : Iface) → IsFaced site.managed up stopped g → sent.FitsMac g.managed.spec.mac
     mac_so up stopped g faced = subst (λ (m : Managed). sent.FitsMac m.spec.mac) (sym faced.managed) mac
 
-    pub begins_carried : (up stopped : Bool) (rest : Iface) → stays_at site e past ≡ true → has_carrier site (e ∷ past) ≡ true → Silent → arp_on (index_at site) event bytes ≡ None
+    pub begins_carried : (up stopped : Bool) (rest : Iface) → stays_at site e past ≡ true → has_carrier site (e ∷ past) ≡ true → Silent
+        → arp_on (index_at site) event bytes ≡ None
         → Carried (begins at salt (face up stopped c rest))
     begins_carried up stopped rest stays up_now none no_arp =
         let first : IfaceStep = then_step (begin_dhcp4 at salt (face up stopped c rest)) (begin_local at) in
@@ -393,7 +415,8 @@ module _ (site : Site) (mac : sent.FitsMac site.managed.spec.mac) (clean : Type 
         (λ after more_others. begun after more_others stays up_now none no_arp) (λ after more_others. passed after more_others stays none no_arp)))
         (carrier_turned carrier6.Up at salt first.iface.dhcp6)
 
-    rebinds_carried : (up stopped : Bool) (rest : Iface) → stays_at site e past ≡ true → has_carrier site (e ∷ past) ≡ true → Silent → arp_on (index_at site) event bytes ≡ None
+    rebinds_carried : (up stopped : Bool) (rest : Iface) → stays_at site e past ≡ true → has_carrier site (e ∷ past) ≡ true → Silent
+        → arp_on (index_at site) event bytes ≡ None
         → Carried (machines_rebind at salt (face up stopped c rest))
     rebinds_carried up stopped rest stays up_now none no_arp =
         let first : IfaceStep = then_step (rebind_dhcp4 at salt (face up stopped c rest)) (arms at) in
@@ -450,7 +473,8 @@ module _ (site : Site) (mac : sent.FitsMac site.managed.spec.mac) (clean : Type 
       let first : Iface = (then_step (begin_dhcp4 at salt (face up stopped c rest)) (begin_local at)).iface in
       dhcp6_faced up stopped first (carrier_turned carrier6.Up at salt first.dhcp6) (begins4_faced up stopped c rest)
 
-  rebinds_faced : (up stopped : Bool) (c : ClientContent) (rest : Iface) → IsFaced site.managed up stopped (machines_rebind at salt (face up stopped c rest)).iface
+  rebinds_faced : (up stopped : Bool) (c : ClientContent) (rest : Iface)
+      → IsFaced site.managed up stopped (machines_rebind at salt (face up stopped c rest)).iface
   rebinds_faced up stopped c rest =
       let first : Iface = (then_step (rebind_dhcp4 at salt (face up stopped c rest)) (arms at)).iface in
       dhcp6_faced up stopped first (rebind_turned at salt first.dhcp6) (rebinds4_faced up stopped c rest)
@@ -502,7 +526,8 @@ module _ (site : Site) (mac : sent.FitsMac site.managed.spec.mac) (clean : Type 
       carries : carrier_after (index_at site) event up ≡ up
       stays : stays_on up (index_at site) event ≡ true
 
-    going : (event : Event) (up now : Bool) (step : IfaceStep) → Before event one up false c → is_stop event ≡ false → carrier_after (index_at site) event up ≡ now
+    going : (event : Event) (up now : Bool) (step : IfaceStep) → Before event one up false c → is_stop event ≡ false
+        → carrier_after (index_at site) event up ≡ now
         → IsFaced site.managed now false step.iface
         → Ended site clean at ((said_in one ++ between) ++ step.said) step.iface.dhcp4 (entry event ∷ past)
         → Turned site clean step.iface ((said_in one ++ between) ++ step.said) (entry event ∷ past)
@@ -520,7 +545,8 @@ module _ (site : Site) (mac : sent.FitsMac site.managed.spec.mac) (clean : Type 
     stays_so : (event : Event) (up : Bool) → Before event one up false c → stays_on up (index_at site) event ≡ true → stays_at site (entry event) past ≡ true
     stays_so event up b h = subst (λ u. stays_on u (index_at site) event ≡ true) (b.carrier refl) h
 
-    up_so : (event : Event) (up now : Bool) → Before event one up false c → carrier_after (index_at site) event up ≡ now → has_carrier site (entry event ∷ past) ≡ now
+    up_so : (event : Event) (up now : Bool) → Before event one up false c → carrier_after (index_at site) event up ≡ now
+        → has_carrier site (entry event ∷ past) ≡ now
     up_so event up now b carried = subst (λ u. carrier_after (index_at site) event u ≡ now) (b.carrier refl) carried
 
     same_leased : (event : Event) (up : Bool) → Before event one up false c → Passes event up → message_on site event bytes ≡ None
@@ -532,8 +558,11 @@ module _ (site : Site) (mac : sent.FitsMac site.managed.spec.mac) (clean : Type 
     frame_leased : (index len : ℕ) (up : Bool) → (index_at site == index) ≡ true → Before (Frame index len) one up false c
         → AfterInput (Frame index len) (input_step site.own at salt (Frame index len) bytes (face up false c rest))
     frame_leased index len up here b =
-        rw here (λ h. going (Frame index len) up up (hears site.own at salt bytes (face up false c rest)) b refl refl (either_faced up false c rest (arp_heard bytes) (heard4_in site.managed.spec.mac bytes) (heard6_in site.managed.spec.mac bytes))
-        (either_carried (Frame index len) one between others c b.amid up false rest (arp_heard bytes) (heard4_in site.managed.spec.mac bytes) (heard6_in site.managed.spec.mac bytes)
+        rw here
+        (λ h. going (Frame index len) up up (hears site.own at salt bytes (face up false c rest)) b refl refl
+        (either_faced up false c rest (arp_heard bytes) (heard4_in site.managed.spec.mac bytes) (heard6_in site.managed.spec.mac bytes))
+        (either_carried (Frame index len) one between others c b.amid up false rest (arp_heard bytes) (heard4_in site.managed.spec.mac bytes)
+        (heard6_in site.managed.spec.mac bytes)
         (heard.heard_fits site.managed.spec.mac bytes octets) refl (rw here refl) (rw here refl) (packet_no_message site.managed.spec.mac bytes) h))
 
     -- ---- the carrier
@@ -553,7 +582,9 @@ module _ (site : Site) (mac : sent.FitsMac site.managed.spec.mac) (clean : Type 
     carrier_leased index true false here b =
         rw here (comes_leased (Carrier index true) false b (rw here refl) refl (rw here refl) refl refl)
     carrier_leased index false true here b =
-        rw here (λ h. going (Carrier index false) true false (carried at salt false (face true false c rest)) b refl (rw here refl) (record { managed = refl; up = refl; stopped = refl })
+        rw here
+        (λ h. going (Carrier index false) true false (carried at salt false (face true false c rest)) b refl (rw here refl)
+        (record { managed = refl; up = refl; stopped = refl })
         (drops_carried (Carrier index false) one between others c b.amid false false rest h))
     carrier_leased index false false here b =
         rw here (same_leased (Carrier index false) false b (record { runs = refl; carries = rw here refl; stays = rw here refl }) refl refl)
@@ -591,7 +622,9 @@ module _ (site : Site) (mac : sent.FitsMac site.managed.spec.mac) (clean : Type 
     duplicate_leased : (index : ℕ) (addr : Ip6) (up : Bool) → (index_at site == index) ≡ true → Before (Duplicate index addr) one up false c
         → AfterInput (Duplicate index addr) (input_step site.own at salt (Duplicate index addr) bytes (face up false c rest))
     duplicate_leased index addr up here b =
-        rw here (λ h. going (Duplicate index addr) up up (contested at salt addr (face up false c rest)) b refl refl (record { managed = refl; up = refl; stopped = refl })
+        rw here
+        (λ h. going (Duplicate index addr) up up (contested at salt addr (face up false c rest)) b refl refl
+        (record { managed = refl; up = refl; stopped = refl })
         (duplicate_carried (Duplicate index addr) one between others c b.amid up false rest addr (stays_so (Duplicate index addr) up b refl) refl refl h))
 
     -- ---- all of them

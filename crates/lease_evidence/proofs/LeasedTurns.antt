@@ -49,7 +49,8 @@ use Rattle.lease_evidence.proofs.Watching.{Lasts, AnyTerms}
 
 -- ---- a turn
 
-module _ (site : Site) (fits : FitsManaged site.managed) (clean : Type 0) (salt : ℕ) (e : Entry) (early : e.moment < 10 ^ 15) (octets : AreBytes e.bytes) (past : List Entry) where
+module _ (site : Site) (fits : FitsManaged site.managed) (clean : Type 0) (salt : ℕ) (e : Entry) (early : e.moment < 10 ^ 15) (octets : AreBytes e.bytes)
+    (past : List Entry) where
   abbrev faced : (up stopped : Bool) → ClientContent → (rest : Iface) → Iface
   faced up stopped c rest = record rest { managed = site.managed; up = up; stopped = stopped; dhcp4 = c }
 
@@ -57,7 +58,8 @@ module _ (site : Site) (fits : FitsManaged site.managed) (clean : Type 0) (salt 
   from_tick g = then_step (ticked e.moment salt g) (input_step site.own e.moment salt e.event e.bytes)
 
   abbrev AfterTurn : IfaceStep → Type 0
-  AfterTurn step = Offered site.managed.spec (ask_of site.duid site.managed) clean step.said (offers_at site e) → Turned site clean step.iface step.said (e ∷ past)
+  AfterTurn step =
+      Offered site.managed.spec (ask_of site.duid site.managed) clean step.said (offers_at site e) → Turned site clean step.iface step.said (e ∷ past)
 
   -- after what a failed send of the turn before undid
   record Begun (up stopped : Bool) (c : ClientContent) : Type 0 where
@@ -95,7 +97,8 @@ module _ (site : Site) (fits : FitsManaged site.managed) (clean : Type 0) (salt 
       let after : Iface = (ticked e.moment salt (faced up stopped c rest)).iface in
       bracketed (said_in one) arps six (input_step site.own e.moment salt e.event e.bytes after)
       (input_leased site fits.mac.six clean e.moment salt early e.bytes octets e.offers past one
-      (arps ++ six) (all_join IsOther arps six (are_arp _) (are_dhcp6 three (tick_turned e.moment salt three.dhcp6).out fits.mac.six)) (moved one c) after e.event up stopped
+      (arps ++ six) (all_join IsOther arps six (are_arp _) (are_dhcp6 three (tick_turned e.moment salt three.dhcp6).out fits.mac.six))
+      (moved one c) after e.event up stopped
       (record {
         stopped_so = b.stopped_so;
         carrier = b.carrier;
@@ -130,7 +133,8 @@ module _ (site : Site) (fits : FitsManaged site.managed) (clean : Type 0) (salt 
 
   pub turn_leased : (unsent : ℕ) (f : Iface) → f.managed ≡ site.managed → Leased site (is_in unsent (index_of f) ≡ false) f past → AfterTurn (turned unsent f)
   turn_leased unsent f same =
-      subst (λ (g : Iface). Leased site (is_in unsent (index_of g) ≡ false) g past → AfterTurn (turned unsent g)) (ap (λ (m : Managed). record f { managed = m }) (sym same))
+      subst (λ (g : Iface). Leased site (is_in unsent (index_of g) ≡ false) g past → AfterTurn (turned unsent g))
+      (ap (λ (m : Managed). record f { managed = m }) (sym same))
       (faced_leased unsent f.up f.stopped f.dhcp4 f)
 
 -- ---- the opening
@@ -199,9 +203,12 @@ module _ (own : List Mac) (clean : Type 0) (at salt : ℕ) (early : at < 10 ^ 15
   pub opens_leased : (up : Bool) → Offered m.spec (ask_of b.duid m) clean (opened_when up).said (offers_on m.spec.index.number offers)
       → Turned (site_at up) clean (opened_when up).iface (opened_when up).said (opening ∷ [])
   opens_leased true h =
-      let shown : IsFaced m true false (begins at salt (face (site_at true) fits.mac.six clean at salt early [] no_bytes offers [] true false made (resting b))).iface =
+      let shown : IsFaced m true false
+      (begins at salt (face (site_at true) fits.mac.six clean at salt early [] no_bytes offers [] true false made (resting b))).iface =
       begins_faced (site_at true) fits.mac.six clean at salt early [] no_bytes offers [] true false made (resting b) in
-      let ended = begins_carried (site_at true) fits.mac.six clean at salt early [] no_bytes offers [] Quiet first [] tt made (made_amid true) true false (resting b) refl refl refl refl h in
+      let ended =
+      begins_carried (site_at true) fits.mac.six clean at salt early [] no_bytes offers [] Quiet first [] tt made (made_amid true) true false
+      (resting b) refl refl refl refl h in
       record {
         leased = record {
           stopped = shown.stopped;
@@ -213,5 +220,6 @@ module _ (own : List Mac) (clean : Type 0) (at salt : ℕ) (early : at < 10 ^ 15
         own = ended.own;
       }
   opens_leased false h =
-      let ended = passed (site_at false) fits.mac.six clean at salt early [] no_bytes offers [] Quiet first [] tt made (made_amid false) [] tt refl refl refl h in
+      let ended =
+      passed (site_at false) fits.mac.six clean at salt early [] no_bytes offers [] Quiet first [] tt made (made_amid false) [] tt refl refl refl h in
       record { leased = record { stopped = refl; carrier = λ k. refl; off = λ k. refl; client = ended.carries }; fit = ended.fit; own = ended.own }

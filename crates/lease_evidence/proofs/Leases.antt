@@ -149,7 +149,8 @@ module _ (site : Site) (past : List Entry) (lease : LeaseContent) where
   by_checking xid None kept is lasts r = not_held is
   by_checking xid (Some terms) kept is lasts r = by_asking terms kept xid r.lease is r.still r.same r.asking lasts
 
-  by_state : (clean : Type 0) (state : State4) (kept : Option LeaseContent) → (if is_held state then kept else None) ≡ Some lease → IsKept (held_terms state) kept
+  by_state : (clean : Type 0) (state : State4) (kept : Option LeaseContent) → (if is_held state then kept else None) ≡ Some lease
+      → IsKept (held_terms state) kept
       → On (Lasts (now_in past)) state (seen_in site past).current (kept_in site past).answered (kept_in site past).grant
       → Bears site clean state past → StandsIn site past state kept → Rests site lease past
   by_state clean Off kept is sound on bears s = not_held is
@@ -170,7 +171,8 @@ module _ (site : Site) (past : List Entry) (lease : LeaseContent) where
 pub lease_rests : (site : Site) (clean : Type 0) (f : Iface) (past : List Entry) (lease : LeaseContent) → Leased site clean f past
     → held_of f.dhcp4 ≡ Some lease → Rests site lease past
 lease_rests site clean f past lease leased held =
-    by_state site past lease clean f.dhcp4.state f.dhcp4.kept held leased.client.sound.held leased.client.watched.on leased.client.bears leased.client.stands.stands
+    by_state site past lease clean f.dhcp4.state f.dhcp4.kept held leased.client.sound.held leased.client.watched.on leased.client.bears
+    leased.client.stands.stands
 
 -- and has its basis
 pub lease_has_basis : (site : Site) (clean : Type 0) (f : Iface) (past : List Entry) (lease : LeaseContent) → Leased site clean f past

@@ -374,7 +374,10 @@ module _ (turn : Turn4) where
 
   lets_go : (tell : Tell) (terms : Terms4) → IsHost terms → OwnStep (released turn tell terms)
   lets_go Server terms host =
-      record { names = tt; own = releasing_own mac (new_xid turn) turn.site.broadcast terms.net.ip terms.server_mac terms.server (some_address terms.net.ip host) }
+      record {
+        names = tt;
+        own = releasing_own mac (new_xid turn) turn.site.broadcast terms.net.ip terms.server_mac terms.server (some_address terms.net.ip host);
+      }
   lets_go Nobody terms host = record { names = tt; own = tt }
 
   lets_go_standing : (tell : Tell) (stands : Option Terms4) → IfSome stands FitsTerms → OwnStep (released_standing turn tell stands)

@@ -179,7 +179,9 @@ needs_three_probes site addr now past probes few basis =
 
 pub probes_begin_anew : ProbesBeginAnew
 probes_begin_anew site addr now later e earlier probes disturbs few basis =
-    let most = three_since (Calm site) AnyTurn site addr.ip later e earlier (not_calm site e earlier disturbs) (probed_of site addr now (later ++ e ∷ earlier) probes basis) in
+    let most =
+    three_since (Calm site) AnyTurn site addr.ip later e earlier (not_calm site e earlier disturbs)
+    (probed_of site addr now (later ++ e ∷ earlier) probes basis) in
     omega arith
 
 pub contests_part_probes : ContestsPartProbes

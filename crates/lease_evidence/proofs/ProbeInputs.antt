@@ -144,12 +144,16 @@ module _ (site : Site) (ask : AskContent) (clean : Type 0) (e : Entry) (past : L
 
       checking_heard : (xid : ℕ) (terms : Terms4) (origin : Origin4) (i : IfIndex) (addr : Ip4) (phase : Phase) (stands : Option Terms4)
           → Amid (Checking xid terms origin (mk i addr phase) stands)
-          → Then (checked turn xid terms origin (detection.acd_hears site.own (mk i addr phase) arp turn.at).acd stands (detection.acd_hears site.own (mk i addr phase) arp turn.at).says)
+          → Then
+          (checked turn xid terms origin (detection.acd_hears site.own (mk i addr phase) arp turn.at).acd stands
+          (detection.acd_hears site.own (mk i addr phase) arp turn.at).says)
       checking_heard xid terms origin i addr (Probing n due) stands b =
           split (is_contested site.own addr arp)
           (λ taken. rw taken (λ calm. tt))
           (λ free. rw free (stays turn (Checking xid terms origin (mk i addr (Probing n due)) stands)
-          (λ xid2 terms2 origin2 acd2 stands2 is. ap (λ (a : Ip4). tells_contest site.own a (arp_on (index_at site) e.event e.bytes)) (sym (address_of is)) ∙ ap (tells_contest site.own addr) heard ∙ free) b))
+          (λ xid2 terms2 origin2 acd2 stands2 is. ap (λ (a : Ip4). tells_contest site.own a (arp_on (index_at site) e.event e.bytes)) (sym (address_of is))
+          ∙ ap (tells_contest site.own addr) heard ∙ free)
+          b))
         where
           checked_address : State4 → Ip4
           checked_address (Checking xid terms origin acd stands) = acd.addr

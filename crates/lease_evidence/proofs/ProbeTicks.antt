@@ -124,7 +124,9 @@ module _ (site : Site) where
 
     -- the state stays as it is, in a calm turn in which nobody contests the address that is probed
     pub bears_on : (said more : List Said) (ended : Bool) (state : State4) → OfferedHere (said ++ more) → (ended ≡ false → C e past)
-        → ((xid : ℕ) (terms : Terms4) (origin : Origin4) (acd : Acd) (stands : Option Terms4) → state ≡ Checking xid terms origin acd stands → contests site acd.addr e ≡ false)
+        →
+        ((xid : ℕ) (terms : Terms4) (origin : Origin4) (acd : Acd) (stands : Option Terms4) → state ≡ Checking xid terms origin acd stands
+        → contests site acd.addr e ≡ false)
         → BearsAmid said ended state → Bears clean state (e ∷ past)
     bears_on said more ended Off h calm none b = tt
     bears_on said more ended (Init due) h calm none b = tt
@@ -180,7 +182,9 @@ module _ (site : Site) where
     module _ (turn : Turn4) (now : turn.at ≡ e.moment) where
       checking_amid : (xid : ℕ) (terms : Terms4) (origin : Origin4) (i : IfIndex) (addr : Ip4) (phase : Phase) (stands : Option Terms4) → addr ≡ terms.net.ip
           → Probes4 (Unit {0}) addr phase past
-          → AfterTick (checked turn xid terms origin (detection.acd_tick (mk i addr phase) turn.at turn.salt).acd stands (detection.acd_tick (mk i addr phase) turn.at turn.salt).says)
+          → AfterTick
+          (checked turn xid terms origin (detection.acd_tick (mk i addr phase) turn.at turn.salt).acd stands
+          (detection.acd_tick (mk i addr phase) turn.at turn.salt).says)
       checking_amid xid terms origin i addr (Probing n due) stands same c =
           split (nat_le due turn.at)
           (λ come. rw come (
@@ -215,7 +219,8 @@ module _ (site : Site) where
       defends_amid xid terms state Conflict on = on (said_in (defended turn xid terms state Conflict))
       defends_amid xid terms state GivenUp on = tt
 
-      detects_amid : (xid : ℕ) (terms : Terms4) (state : State4) (acd : Option Acd) → ((acd : Acd) (said : List Said) → BearsAmid said false (with_acd state acd))
+      detects_amid : (xid : ℕ) (terms : Terms4) (state : State4) (acd : Option Acd)
+          → ((acd : Acd) (said : List Said) → BearsAmid said false (with_acd state acd))
           → ((said : List Said) → BearsAmid said false state) → AfterTick (detects turn xid terms state acd)
       detects_amid xid terms state None with_on on = on []
       detects_amid xid terms state (Some acd) with_on on =

@@ -109,7 +109,8 @@ pub new_xid_fits : (turn : Turn4) → new_xid turn < 2 ^ 32
 new_xid_fits turn = drawn_fits turn.last (xid_of turn.salt turn.site.iface.index) (omega arith)
 
 module _ (turn : Turn4) (mac : FitsMac turn.site.iface.mac) where
-  everyone_fits : (kind : Kind4) (xid secs flags : ℕ) (ciaddr : Ip4) (asked server : Option Ip4) → xid < 2 ^ 32 → secs < 2 ^ 16 → flags < 2 ^ 16 → FitsIp4 ciaddr
+  everyone_fits : (kind : Kind4) (xid secs flags : ℕ) (ciaddr : Ip4) (asked server : Option Ip4) → xid < 2 ^ 32 → secs < 2 ^ 16 → flags < 2 ^ 16
+      → FitsIp4 ciaddr
       → IfSome asked FitsIp4 → IfSome server FitsIp4
       → FitsSent (sent_of (to_everyone (record (base turn.site kind xid) { secs = secs; flags = flags; ciaddr = ciaddr; asked = asked; server = server })))
   everyone_fits kind xid secs flags ciaddr asked server x s f c a v = record {
@@ -150,7 +151,9 @@ module _ (turn : Turn4) (mac : FitsMac turn.site.iface.mac) where
   selecting_fits : (xid began : ℕ) (backoff : Backoff) → xid < 2 ^ 32 → FitsStep (selecting turn xid began backoff)
   selecting_fits xid began backoff x = record {
     state = (x, secs_fit began turn.at);
-    say = everyone_fits Discover xid (secs_since began turn.at) (flags turn.site) no_address None None x (secs_fit began turn.at) (flags_fit turn.site) zero_fits tt tt;
+    say =
+        everyone_fits Discover xid (secs_since began turn.at) (flags turn.site) no_address None None x (secs_fit began turn.at)
+        (flags_fit turn.site) zero_fits tt tt;
   }
 
   discovers_fits : (news : News4) → FitsStep (record (discovers turn) { news = news })
@@ -159,14 +162,18 @@ module _ (turn : Turn4) (mac : FitsMac turn.site.iface.mac) where
   requesting_fits : (exchange : Exchange4) (secs : ℕ) (backoff : Backoff) → FitsAsk exchange → secs < 2 ^ 16 → FitsStep (requesting turn exchange secs backoff)
   requesting_fits exchange secs backoff a s = record {
     state = (a, s);
-    say = everyone_fits Request exchange.xid secs (flags turn.site) no_address (Some exchange.address) exchange.server a.xid s (flags_fit turn.site) zero_fits a.address a.server;
+    say =
+        everyone_fits Request exchange.xid secs (flags turn.site) no_address (Some exchange.address) exchange.server a.xid s
+        (flags_fit turn.site) zero_fits a.address a.server;
   }
 
   rebooting_fits : (exchange : Exchange4) (backoff : Backoff) (end : ℕ) (stands : Option Terms4) → FitsAsk exchange → IfSome stands FitsGrant
       → FitsStep (rebooting turn exchange backoff end stands)
   rebooting_fits exchange backoff end stands a s = record {
     state = (a, s);
-    say = everyone_fits Request exchange.xid 0 (flags turn.site) no_address (Some exchange.address) exchange.server a.xid (lit< tt) (flags_fit turn.site) zero_fits a.address a.server;
+    say =
+        everyone_fits Request exchange.xid 0 (flags turn.site) no_address (Some exchange.address) exchange.server a.xid (lit< tt)
+        (flags_fit turn.site) zero_fits a.address a.server;
   }
 
   new_fits : (address : Ip4) → FitsIp4 address → FitsAsk (new_exchange turn address)
@@ -175,7 +182,8 @@ module _ (turn : Turn4) (mac : FitsMac turn.site.iface.mac) where
   renewing_fits : (exchange : Exchange4) (terms : Terms4) (acd : Option Acd) → FitsAsk exchange → FitsGrant terms → FitsStep (renewing turn exchange terms acd)
   renewing_fits exchange terms acd a t = record { state = (a, t); say = server_fits Request exchange.xid terms None a.xid t tt }
 
-  rebinding_fits : (exchange : Exchange4) (terms : Terms4) (acd : Option Acd) → FitsAsk exchange → FitsGrant terms → FitsStep (rebinding turn exchange terms acd)
+  rebinding_fits : (exchange : Exchange4) (terms : Terms4) (acd : Option Acd) → FitsAsk exchange → FitsGrant terms
+      → FitsStep (rebinding turn exchange terms acd)
   rebinding_fits exchange terms acd a t = record {
     state = (a, t);
     say = everyone_fits Request exchange.xid 0 0 terms.net.ip None None a.xid (lit< tt) (lit< tt) t.address tt tt;
@@ -217,7 +225,8 @@ module _ (turn : Turn4) (mac : FitsMac turn.site.iface.mac) where
   checks_fits xid terms origin acd stands Conflict x t s = declines_fits xid terms (standing_news stands) x t
   checks_fits xid terms origin acd stands GivenUp x t s = record { state = (x, t, s); say = tt }
 
-  detects_fits : (xid : ℕ) (terms : Terms4) (state : State4) (acd : Option Acd) → xid < 2 ^ 32 → FitsGrant terms → ((acd : Acd) → FitsFields (with_acd state acd))
+  detects_fits : (xid : ℕ) (terms : Terms4) (state : State4) (acd : Option Acd) → xid < 2 ^ 32 → FitsGrant terms
+      → ((acd : Acd) → FitsFields (with_acd state acd))
       → FitsFields state → FitsStep (detects turn xid terms state acd)
   detects_fits xid terms state None x t with_on f = rests_fits state f
   detects_fits xid terms state (Some acd) x t with_on f =
@@ -260,7 +269,8 @@ module _ (turn : Turn4) (mac : FitsMac turn.site.iface.mac) where
 
   -- ---- messages
 
-  module _ (settings : SettingsContent) (arrival : Arrival) (named : IfSome (address_at SERVER_IDENTIFIER arrival.message.instances) FitsIp4) (source : FitsMac arrival.source) where
+  module _ (settings : SettingsContent) (arrival : Arrival) (named : IfSome (address_at SERVER_IDENTIFIER arrival.message.instances) FitsIp4)
+      (source : FitsMac arrival.source) where
     named_fits : (server : Ip4) → address_at SERVER_IDENTIFIER arrival.message.instances ≡ Some server → FitsIp4 server
     named_fits server is = subst (λ (s : Option Ip4). IfSome s FitsIp4) is named
 
@@ -282,7 +292,8 @@ module _ (turn : Turn4) (mac : FitsMac turn.site.iface.mac) where
         requesting_fits _ secs Four
         (record { xid = x; address = host_fits address good; server = named_fits server (is_offered settings xid arrival address server is).from.named }) s
 
-    answering_fits : (exchange : Exchange4) (origin : Origin4) (stands : Option Terms4) (state : State4) (said : Answer4) → reply_in settings arrival exchange ≡ said
+    answering_fits : (exchange : Exchange4) (origin : Origin4) (stands : Option Terms4) (state : State4) (said : Answer4)
+        → reply_in settings arrival exchange ≡ said
         → FitsAsk exchange → IfSome stands FitsGrant → FitsFields state → FitsStep (answered turn exchange.xid origin stands state said)
     answering_fits exchange origin stands state (answer.Ack terms) is a s f =
         let t : FitsGrant terms = granted_fits exchange terms a is in
@@ -298,7 +309,8 @@ module _ (turn : Turn4) (mac : FitsMac turn.site.iface.mac) where
     renewed_fits exchange news acd state answer.Nothing is a f = rests_fits state f
     renewed_fits exchange news acd state (answer.Offer address server) is a f = rests_fits state f
 
-    pub heard_fits : (state : State4) → FitsAnswer (answer_of settings arrival state) → FitsFields state → FitsStep (heard_row turn (answer_of settings arrival state) state)
+    pub heard_fits : (state : State4) → FitsAnswer (answer_of settings arrival state) → FitsFields state
+        → FitsStep (heard_row turn (answer_of settings arrival state) state)
     heard_fits Off good f = rests_fits Off f
     heard_fits (Init due) good f = rests_fits (Init due) f
     heard_fits (Selecting xid began secs backoff due) good f =
@@ -334,8 +346,10 @@ module _ (turn : Turn4) (mac : FitsMac turn.site.iface.mac) where
       checks_fits xid terms origin (detection.acd_hears own acd arp turn.at).acd stands (detection.acd_hears own acd arp turn.at).says f.0 f.1 f.2
   arp_fits own arp (Waiting due) f = rests_fits (Waiting due) f
   arp_fits own arp (Bound xid terms acd) f = contests_fits own arp xid terms (Bound xid terms acd) acd f.0 f.1 (λ next. f) f
-  arp_fits own arp (Renewing exchange terms acd due) f = contests_fits own arp exchange.xid terms (Renewing exchange terms acd due) acd f.0.xid f.1 (λ next. f) f
-  arp_fits own arp (Rebinding exchange terms acd due) f = contests_fits own arp exchange.xid terms (Rebinding exchange terms acd due) acd f.0.xid f.1 (λ next. f) f
+  arp_fits own arp (Renewing exchange terms acd due) f =
+      contests_fits own arp exchange.xid terms (Renewing exchange terms acd due) acd f.0.xid f.1 (λ next. f) f
+  arp_fits own arp (Rebinding exchange terms acd due) f =
+      contests_fits own arp exchange.xid terms (Rebinding exchange terms acd due) acd f.0.xid f.1 (λ next. f) f
 
   -- ---- the other inputs
 
@@ -357,7 +371,8 @@ module _ (turn : Turn4) (mac : FitsMac turn.site.iface.mac) where
   begun_fits may_stand (Some terms) k =
       let stands : Option Terms4 = stood turn may_stand terms in
       let fits : FitsStep (rebooting turn (new_exchange turn terms.net.ip) Four (turn.at + SECOND * turn.site.reboot) stands) =
-      rebooting_fits (new_exchange turn terms.net.ip) Four (turn.at + SECOND * turn.site.reboot) stands (new_fits terms.net.ip k.0) (stood_fits may_stand terms k.1) in
+      rebooting_fits (new_exchange turn terms.net.ip) Four (turn.at + SECOND * turn.site.reboot) stands (new_fits terms.net.ip k.0)
+      (stood_fits may_stand terms k.1) in
       gated (λ (step : Step4). FitsStep (record step { spends = true })) (is_due (expiry terms) turn.at || eqb turn.site.reboot 0) _ _
       (record { state = tt; say = tt }) (record { state = fits.state; say = fits.say })
 

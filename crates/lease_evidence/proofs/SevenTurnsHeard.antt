@@ -86,7 +86,8 @@ datagram_heard number len range = alone_is_heard (datagram number) (lit< tt) (li
 abbrev heard : MessageKind → ℕ → HeardMessage
 heard sort number = record { source = server_mac; message = message sort number }
 
-frame_heard : (sort : MessageKind) (number : ℕ) → length (payload number) ≡ 262 → AreBytes (payload number) → message_in (payload number) ≡ Some (message sort number)
+frame_heard : (sort : MessageKind) (number : ℕ) → length (payload number) ≡ 262 → AreBytes (payload number)
+    → message_in (payload number) ≡ Some (message sort number)
     → heard4_in client_mac (reply_frame number) ≡ Some (heard sort number)
 unfolding heard4_in
 frame_heard sort number len range read =
@@ -136,7 +137,9 @@ abbrev granted_then : IfaceStep
 granted_then = hearing 2500 asked None (Some (heard kind.Ack 5)) None
 
 -- the turn of the ACK
-acked : iface_turned own (met 2500 (Frame 1 304) (reply_frame 5) []).turn (iface_turned own (met 2000 (Frame 1 304) (reply_frame 2) requests).turn seeking).iface ≡ granted_then
+acked : iface_turned own (met 2500 (Frame 1 304) (reply_frame 5) []).turn
+    (iface_turned own (met 2000 (Frame 1 304) (reply_frame 2) requests).turn seeking).iface
+    ≡ granted_then
 acked = ap (λ (step : IfaceStep). iface_turned own (met 2500 (Frame 1 304) (reply_frame 5) []).turn step.iface) asking ∙ holding
 
 -- a turn without input
@@ -174,7 +177,10 @@ abbrev SaidBy : List Offer → IfaceStep → Type 0
 SaidBy offers step = map (λ o. o.bytes) offers ≡ map (frame_of interface.spec (ask_of duid interface)) step.said
 
 said_after : (offers : List Offer) (next : IfaceStep → IfaceStep) → SaidBy offers (next granted_then)
-    → SaidBy offers (next (iface_turned own (met 2500 (Frame 1 304) (reply_frame 5) []).turn (iface_turned own (met 2000 (Frame 1 304) (reply_frame 2) requests).turn seeking).iface))
+    → SaidBy offers
+    (next
+    (iface_turned own (met 2500 (Frame 1 304) (reply_frame 5) []).turn
+    (iface_turned own (met 2000 (Frame 1 304) (reply_frame 2) requests).turn seeking).iface))
 said_after offers next said = subst (λ (step : IfaceStep). SaidBy offers (next step)) (sym acked) said
 
 pub seven_lived : IsLived own beginning opening seven_turns

@@ -194,7 +194,8 @@ module _ (at : ℕ) (more : List Said) where
   shows_step step s = by_parts step.say step.arp
     where
       by_parts : (say : Option Say4) (arp : Option ArpSay)
-          → show at (map message_said ((map Dhcp4 (option_to_list say) ++ map Arp (option_to_list arp)) ++ more)) s ≡ show at (map message_said more) (shows at (option_map sent_of say) s)
+          → show at (map message_said ((map Dhcp4 (option_to_list say) ++ map Arp (option_to_list arp)) ++ more)) s
+          ≡ show at (map message_said more) (shows at (option_map sent_of say) s)
       by_parts None None = refl
       by_parts None (Some arp) = refl
       by_parts (Some say) None = refl
@@ -206,7 +207,8 @@ module _ (at : ℕ) (more : List Said) where
   shows_others (Arp say ∷ said) s h = shows_others said s h.1
   shows_others (Dhcp6 sent ∷ said) s h = shows_others said s h.1
 
-  ends_step : (step : Step4) → list_any tells_end (map message_said (said_in step ++ more)) ≡ (tells_end (message_in step) || list_any tells_end (map message_said more))
+  ends_step : (step : Step4)
+      → list_any tells_end (map message_said (said_in step ++ more)) ≡ (tells_end (message_in step) || list_any tells_end (map message_said more))
   ends_step step = by_parts step.say step.arp
     where
       by_parts : (say : Option Say4) (arp : Option ArpSay)
@@ -223,7 +225,8 @@ module _ (at : ℕ) (more : List Said) where
   ends_others (Arp say ∷ said) h = ends_others said h.1
   ends_others (Dhcp6 sent ∷ said) h = ends_others said h.1
 
-  speaks_step : (step : Step4) → list_any is_some (map message_said (said_in step ++ more)) ≡ (is_some (message_in step) || list_any is_some (map message_said more))
+  speaks_step : (step : Step4)
+      → list_any is_some (map message_said (said_in step ++ more)) ≡ (is_some (message_in step) || list_any is_some (map message_said more))
   speaks_step step = by_parts step.say step.arp
     where
       by_parts : (say : Option Say4) (arp : Option ArpSay)

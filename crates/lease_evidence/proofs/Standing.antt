@@ -245,7 +245,8 @@ module _ (site : Site) (past : List Entry) (name : Name) (fresh : List ValueCont
   defends_mid turn xid terms state Conflict on = on None
   defends_mid turn xid terms state GivenUp on = tt
 
-  detects_mid : (turn : Turn4) (xid : ℕ) (terms : Terms4) (state : State4) (acd : Option Acd) → ((acd : Acd) (first : Option Sent4) → StandsMid site past first (with_acd state acd) kept)
+  detects_mid : (turn : Turn4) (xid : ℕ) (terms : Terms4) (state : State4) (acd : Option Acd)
+      → ((acd : Acd) (first : Option Sent4) → StandsMid site past first (with_acd state acd) kept)
       → ((first : Option Sent4) → StandsMid site past first state kept) → Ticked (detects turn xid terms state acd)
   detects_mid turn xid terms state None with_on on = on None
   detects_mid turn xid terms state (Some acd) with_on on =
@@ -298,7 +299,8 @@ module _ (site : Site) (past : List Entry) (name : Name) (fresh : List ValueCont
       → MayStand site past (ticks turn state).state (kept_after (ticks turn state).keep name fresh kept) × (message_in (ticks turn state) ≡ None)
   tick_may turn may state before is =
       let m : MayStand site past state kept = before (may_before (ticks turn state).spends may is) in
-      subst (λ (step : Step4). MayStand site past step.state (kept_after step.keep name fresh kept) × (message_in step ≡ None)) (sym (tick_off turn state m.off))
+      subst (λ (step : Step4). MayStand site past step.state (kept_after step.keep name fresh kept) × (message_in step ≡ None))
+      (sym (tick_off turn state m.off))
       (record { off = refl; still = m.still; typed = m.typed; silent = m.silent; none_open = m.none_open; stays = m.stays; unrefused = m.unrefused }, refl)
 
   pub tick_stands : (turn : Turn4) (may : Bool) (state : State4) → Stands site past may state kept
@@ -306,7 +308,8 @@ module _ (site : Site) (past : List Entry) (name : Name) (fresh : List ValueCont
       (kept_after (ticks turn state).keep name fresh kept)
   tick_stands turn may state h = record {
     may_stand = tick_may turn may state h.may_stand;
-    stands = gated Ticked (is_due (due_of state) turn.at) (tick_row turn state) (rests turn state) (tick_mid turn state h.stands) (rested_mid turn state h.stands);
+    stands =
+        gated Ticked (is_due (due_of state) turn.at) (tick_row turn state) (rests turn state) (tick_mid turn state h.stands) (rested_mid turn state h.stands);
   }
 
 -- ---- a failed send of the turn before
@@ -363,7 +366,8 @@ module _ (site : Site) (e : Entry) (past : List Entry) (first : Option Sent4) (n
     unrefused = (unrefused, a.unrefused);
   }
 
-  asks_so : (exchange : Exchange4) (address : Ip4) → exchange.address ≡ address → IfSome first (AsksAgain exchange.xid exchange.address) → IfSome first (AsksAgain exchange.xid address)
+  asks_so : (exchange : Exchange4) (address : Ip4) → exchange.address ≡ address → IfSome first (AsksAgain exchange.xid exchange.address)
+      → IfSome first (AsksAgain exchange.xid address)
   asks_so exchange address same h = subst (λ (a : Ip4). IfSome first (AsksAgain exchange.xid a)) same h
 
   -- no NAK comes
@@ -406,7 +410,8 @@ module _ (site : Site) (e : Entry) (past : List Entry) (first : Option Sent4) (n
   rests_on turn (Selecting xid began secs backoff due) none h shows = tt
   rests_on turn (Requesting exchange secs backoff due) none h shows = tt
   rests_on turn (Rebooting exchange backoff end due stands) none h shows =
-      if_map (λ terms. Reboots site past exchange kept terms × IfSome first (AsksAgain exchange.xid exchange.address)) (Reboots site (e ∷ past) exchange kept) stands
+      if_map (λ terms. Reboots site past exchange kept terms × IfSome first (AsksAgain exchange.xid exchange.address))
+      (Reboots site (e ∷ past) exchange kept) stands
       (λ terms r. reboots_on exchange terms none shows r) h
   rests_on turn (Checking xid terms from acd stands) none h shows =
       if_map (λ old. Checks site past xid kept old × (first ≡ None)) (Checks site (e ∷ past) xid kept) stands (λ old r. checks_on xid old shows r) h
@@ -420,16 +425,19 @@ module _ (site : Site) (e : Entry) (past : List Entry) (first : Option Sent4) (n
   module _ (settings : SettingsContent) (arrival : Arrival) (turn : Turn4)
       (replies : (exchange : Exchange4) → reply_at site exchange e ≡ reply_in settings arrival exchange) where
     -- the exchange that is open is this one
-    asked_open : (exchange : Exchange4) (answered : ℕ) (current : Option Numbered) (o : Numbered) → Asks exchange answered current → current ≡ Some o → o.exchange ≡ exchange
+    asked_open : (exchange : Exchange4) (answered : ℕ) (current : Option Numbered) (o : Numbered) → Asks exchange answered current → current ≡ Some o
+        → o.exchange ≡ exchange
     asked_open exchange answered None o asks is = absurd asks
     asked_open exchange answered (Some x) o asks is = ap (λ (y : Numbered). y.exchange) (sym (some_one x o is)) ∙ asks.0
 
-    open_is : (exchange : Exchange4) (answered : ℕ) → Asks exchange answered (shows e.moment first (seen_in site past)).current → ShowsBoth site e past first None
+    open_is : (exchange : Exchange4) (answered : ℕ) → Asks exchange answered (shows e.moment first (seen_in site past)).current
+        → ShowsBoth site e past first None
         → (o : Numbered) → (seen_in site (e ∷ past)).current ≡ Some o → o.exchange ≡ exchange
     open_is exchange k asks both o now =
         asked_open exchange k (shows e.moment first (seen_in site past)).current o asks (sym (ap (λ (s : Seen). s.current) both.seen_so) ∙ now)
 
-    said_in_it : (exchange : Exchange4) (said : Answer4) → reply_in settings arrival exchange ≡ said → (o : Numbered) → o.exchange ≡ exchange → reply_at site o.exchange e ≡ said
+    said_in_it : (exchange : Exchange4) (said : Answer4) → reply_in settings arrival exchange ≡ said → (o : Numbered) → o.exchange ≡ exchange
+        → reply_at site o.exchange e ≡ said
     said_in_it exchange said is o same = ap (λ (x : Exchange4). reply_at site x e) same ∙ replies exchange ∙ is
 
     not_nak : (said : Answer4) → (said ≡ answer.Nak → ⊥) → (exchange : Exchange4) → reply_in settings arrival exchange ≡ said
@@ -441,7 +449,8 @@ module _ (site : Site) (e : Entry) (past : List Entry) (first : Option Sent4) (n
         → ((o : Numbered) → (seen_in site (e ∷ past)).current ≡ Some o → o.exchange ≡ exchange) → ShowsBoth site e past first None
         → Reboots site past exchange kept old × IfSome first (AsksAgain exchange.xid exchange.address) → Checks site (e ∷ past) exchange.xid kept old
     acked exchange granted_terms old is open_so shows h =
-        let r : Reboots site (e ∷ past) exchange kept old = reboots_on exchange old (not_nak (answer.Ack granted_terms) (λ bad. cc) exchange is open_so) shows h in
+        let r : Reboots site (e ∷ past) exchange kept old =
+        reboots_on exchange old (not_nak (answer.Ack granted_terms) (λ bad. cc) exchange is open_so) shows h in
         record {
           lease = r.lease;
           still = r.still;
@@ -453,13 +462,15 @@ module _ (site : Site) (e : Entry) (past : List Entry) (first : Option Sent4) (n
           });
         }
 
-    answers_on : (exchange : Exchange4) (k : ℕ) (from : Origin4) (stands : Option Terms4) (state : State4) (said : Answer4) → reply_in settings arrival exchange ≡ said
+    answers_on : (exchange : Exchange4) (k : ℕ) (from : Origin4) (stands : Option Terms4) (state : State4) (said : Answer4)
+        → reply_in settings arrival exchange ≡ said
         → Asks exchange k (shows e.moment first (seen_in site past)).current
         → IfSome stands (λ old. Reboots site past exchange kept old × IfSome first (AsksAgain exchange.xid exchange.address))
         → (NoNak → AfterInput (rests turn state)) → AfterInput (answered turn exchange.xid from stands state said)
     answers_on exchange k from stands state (answer.Ack terms) is asks h on =
         gated AfterInput turn.site.noarp _ _ (λ shows. tt)
-        (λ shows. if_map (λ old. Reboots site past exchange kept old × IfSome first (AsksAgain exchange.xid exchange.address)) (Checks site (e ∷ past) exchange.xid kept) stands
+        (λ shows. if_map (λ old. Reboots site past exchange kept old × IfSome first (AsksAgain exchange.xid exchange.address))
+        (Checks site (e ∷ past) exchange.xid kept) stands
         (λ old r. acked exchange terms old is (open_is exchange k asks shows) shows r) h)
     answers_on exchange k from stands state answer.Nak is asks h on = λ shows. tt
     answers_on exchange k from stands state answer.Nothing is asks h on =
@@ -473,7 +484,8 @@ module _ (site : Site) (e : Entry) (past : List Entry) (first : Option Sent4) (n
     offers_on xid secs state (answer.Ack terms) on = on
     offers_on xid secs state answer.Nak on = on
 
-    renews_on : (xid : ℕ) (told : News4) (acd : Option Acd) (state : State4) (said : Answer4) → AfterInput (rests turn state) → AfterInput (renewed turn xid told acd state said)
+    renews_on : (xid : ℕ) (told : News4) (acd : Option Acd) (state : State4) (said : Answer4) → AfterInput (rests turn state)
+        → AfterInput (renewed turn xid told acd state said)
     renews_on xid told acd state (answer.Ack terms) on = λ shows. tt
     renews_on xid told acd state answer.Nak on = λ shows. tt
     renews_on xid told acd state answer.Nothing on = on
@@ -502,7 +514,8 @@ module _ (site : Site) (e : Entry) (past : List Entry) (first : Option Sent4) (n
   -- ---- a packet
 
   module _ (turn : Turn4) (none : NoNak) where
-    checks_heard : (xid : ℕ) (terms : Terms4) (from : Origin4) (acd : Acd) (stands : Option Terms4) (says : AcdSays) → StandsMid site past first (Checking xid terms from acd stands) kept
+    checks_heard : (xid : ℕ) (terms : Terms4) (from : Origin4) (acd : Acd) (stands : Option Terms4) (says : AcdSays)
+        → StandsMid site past first (Checking xid terms from acd stands) kept
         → AfterInput (checked turn xid terms from acd stands says)
     checks_heard xid terms from acd stands Quiet h = rests_on turn (Checking xid terms from acd stands) none h
     checks_heard xid terms from acd stands SayProbe h = rests_on turn (Checking xid terms from acd stands) none h
@@ -511,7 +524,8 @@ module _ (site : Site) (e : Entry) (past : List Entry) (first : Option Sent4) (n
     checks_heard xid terms from acd stands Conflict h = λ shows. tt
     checks_heard xid terms from acd stands GivenUp h = rests_on turn (Checking xid terms from acd stands) none h
 
-    defends_on : (xid : ℕ) (terms : Terms4) (state : State4) (says : AcdSays) → StandsIn site (e ∷ past) state kept → AfterInput (defended turn xid terms state says)
+    defends_on : (xid : ℕ) (terms : Terms4) (state : State4) (says : AcdSays) → StandsIn site (e ∷ past) state kept
+        → AfterInput (defended turn xid terms state says)
     defends_on xid terms state Quiet on = λ shows. on
     defends_on xid terms state SayProbe on = λ shows. on
     defends_on xid terms state SayAnnounce on = λ shows. on
@@ -519,7 +533,8 @@ module _ (site : Site) (e : Entry) (past : List Entry) (first : Option Sent4) (n
     defends_on xid terms state Conflict on = λ shows. on
     defends_on xid terms state GivenUp on = λ shows. tt
 
-    contests_on : (own : List Mac) (arp : ArpView) (xid : ℕ) (terms : Terms4) (state : State4) (acd : Option Acd) → ((acd : Acd) → StandsIn site (e ∷ past) (with_acd state acd) kept)
+    contests_on : (own : List Mac) (arp : ArpView) (xid : ℕ) (terms : Terms4) (state : State4) (acd : Option Acd)
+        → ((acd : Acd) → StandsIn site (e ∷ past) (with_acd state acd) kept)
         → StandsIn site (e ∷ past) state kept → AfterInput (contested own turn arp xid terms state acd)
     contests_on own arp xid terms state None with_on on = λ shows. on
     contests_on own arp xid terms state (Some acd) with_on on =
@@ -532,7 +547,8 @@ module _ (site : Site) (e : Entry) (past : List Entry) (first : Option Sent4) (n
     arp_on own arp (Selecting xid began secs backoff due) h = λ shows. tt
     arp_on own arp (Requesting exchange secs backoff due) h = λ shows. tt
     arp_on own arp (Rebooting exchange backoff end due stands) h = rests_on turn (Rebooting exchange backoff end due stands) none h
-    arp_on own arp (Checking xid terms from acd stands) h = checks_again (detection.acd_hears own acd arp turn.at).acd (detection.acd_hears own acd arp turn.at).says
+    arp_on own arp (Checking xid terms from acd stands) h =
+        checks_again (detection.acd_hears own acd arp turn.at).acd (detection.acd_hears own acd arp turn.at).says
       where
         checks_again : (next : Acd) (says : AcdSays) → AfterInput (checked turn xid terms from next stands says)
         checks_again next says = checks_heard xid terms from next stands says h
@@ -547,7 +563,8 @@ module _ (site : Site) (e : Entry) (past : List Entry) (first : Option Sent4) (n
     test_of wished may told = wished && may && told
 
     -- the first message of all
-    starts : (lease : LeaseContent) → turn.site.persistent ≡ site.managed.conf.persistent → has_carrier site (e ∷ past) ≡ true → MayStand site past Off (Some lease) → first ≡ None
+    starts : (lease : LeaseContent) → turn.site.persistent ≡ site.managed.conf.persistent → has_carrier site (e ∷ past) ≡ true
+        → MayStand site past Off (Some lease) → first ≡ None
         → turn.site.persistent ≡ true → is_some lease.origin ≡ true
         → ShowsBoth site e past first (Some (sent_of (request turn.site (new_exchange turn lease.net.ip) 0)))
         → Reboots site (e ∷ past) (new_exchange turn lease.net.ip) (Some lease) (terms_of lease)
@@ -564,7 +581,8 @@ module _ (site : Site) (e : Entry) (past : List Entry) (first : Option Sent4) (n
         up = up;
         stays = (shows.stays, m.stays);
         asks = (
-          shows.alone (new_exchange turn lease.net.ip).xid lease.net.ip (subst (λ (f : Option Sent4). IfSome f (AsksAgain (new_exchange turn lease.net.ip).xid lease.net.ip)) (sym silent) tt)
+          shows.alone (new_exchange turn lease.net.ip).xid lease.net.ip
+              (subst (λ (f : Option Sent4). IfSome f (AsksAgain (new_exchange turn lease.net.ip).xid lease.net.ip)) (sym silent) tt)
               (record { kind = refl; same_xid = refl; names = refl; no_server = refl; none_yet = refl }),
           all_silent site (new_exchange turn lease.net.ip).xid lease.net.ip past m.silent,
         );
@@ -590,13 +608,22 @@ module _ (site : Site) (e : Entry) (past : List Entry) (first : Option Sent4) (n
   module _ (turn : Turn4) (none : NoNak) (flag : turn.site.persistent ≡ site.managed.conf.persistent) (up : has_carrier site (e ∷ past) ≡ true) where
     kept_off : (state : State4) (other : Option LeaseContent) → kept ≡ other → MayStand site past state kept → MayStand site past Off other
     kept_off state other same m =
-        record { off = refl; still = sym same ∙ m.still; typed = subst (λ (k : Option LeaseContent). IfSome k IsTyped) same m.typed; silent = m.silent; none_open = m.none_open; stays = m.stays; unrefused = m.unrefused }
+        record {
+          off = refl;
+          still = sym same ∙ m.still;
+          typed = subst (λ (k : Option LeaseContent). IfSome k IsTyped) same m.typed;
+          silent = m.silent;
+          none_open = m.none_open;
+          stays = m.stays;
+          unrefused = m.unrefused;
+        }
 
     begun_on : (may : Bool) → (may ≡ true → MayStand site past Off kept × (first ≡ None)) → (filed : Option LeaseContent) → kept ≡ filed
         → AfterInput (begins turn may (option_map terms_of filed))
     begun_on may before None is = λ shows. tt
     begun_on may before (Some lease) is =
-        gated (λ (step : Step4). AfterInput (record step { spends = true })) (is_due (expiry (terms_of lease)) turn.at || eqb turn.site.reboot 0) _ _ (λ shows. tt)
+        gated (λ (step : Step4). AfterInput (record step { spends = true })) (is_due (expiry (terms_of lease)) turn.at || eqb turn.site.reboot 0) _ _
+        (λ shows. tt)
         (λ shows. stood_if turn none may (terms_of lease) (Reboots site (e ∷ past) (new_exchange turn lease.net.ip) kept)
         (λ h.
         let m = before h.1 in
@@ -631,10 +658,12 @@ module _ (site : Site) (e : Entry) (past : List Entry) (first : Option Sent4) (n
   -- ---- a client that may still stand
 
   -- it goes on so where nothing is done
-  may_on : (turn : Turn4) (state : State4) (two : Step4) → two ≡ rests turn Off → ShowsBoth site e past first (message_in two) → MayStand site past state kept × (first ≡ None)
+  may_on : (turn : Turn4) (state : State4) (two : Step4) → two ≡ rests turn Off → ShowsBoth site e past first (message_in two)
+      → MayStand site past state kept × (first ≡ None)
       → MayStand site (e ∷ past) two.state (kept_after two.keep name fresh kept)
   may_on turn state two rested shows m =
-      subst (λ (step : Step4). ShowsBoth site e past first (message_in step) → MayStand site (e ∷ past) step.state (kept_after step.keep name fresh kept)) (sym rested)
+      subst (λ (step : Step4). ShowsBoth site e past first (message_in step) → MayStand site (e ∷ past) step.state (kept_after step.keep name fresh kept))
+      (sym rested)
       (λ both.
       let same : seen_in site (e ∷ past) ≡ seen_in site past = same_open m.1 both in
       let closed : (seen_in site (e ∷ past)).current ≡ None = ap (λ (s : Seen). s.current) same ∙ m.0.none_open in
@@ -649,7 +678,8 @@ module _ (site : Site) (e : Entry) (past : List Entry) (first : Option Sent4) (n
       }) shows
 
   -- after the input: `row` is what comes of a state, and nothing comes of a client that is off
-  pub input_stands : (turn : Turn4) (row : State4 → Step4) → row Off ≡ rests turn Off → (may : Bool) (state : State4) → StandsAmid site past first may state kept
+  pub input_stands : (turn : Turn4) (row : State4 → Step4) → row Off ≡ rests turn Off → (may : Bool) (state : State4)
+      → StandsAmid site past first may state kept
       → AfterInput (row state) → ShowsBoth site e past first (message_in (row state))
       → Stands site (e ∷ past) (if (row state).spends then false else may) (row state).state (kept_after (row state).keep name fresh kept)
   input_stands turn row quiet may state h on shows = record {

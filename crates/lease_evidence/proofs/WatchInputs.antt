@@ -119,7 +119,8 @@ module _ (settings : SettingsContent) (arrival : Arrival) (turn : Turn4) (now : 
 
   -- ---- an exchange that isn't answered yet
 
-  module _ (x : Numbered) (exchange : Exchange4) (same : x.exchange ≡ exchange) (other : nat_eq k.answered x.number ≡ false) (last : LastXid turn.last (Some x)) where
+  module _ (x : Numbered) (exchange : Exchange4) (same : x.exchange ≡ exchange) (other : nat_eq k.answered x.number ≡ false)
+      (last : LastXid turn.last (Some x)) where
     heard_as : (said : Answer4) → reply exchange ≡ said → hears reply (Some x) k ≡ answered_in x false said k
     heard_as said is =
         ap (λ (e : Exchange4). answered_in x (nat_eq k.answered x.number) (reply e) k) same
@@ -147,7 +148,8 @@ module _ (settings : SettingsContent) (arrival : Arrival) (turn : Turn4) (now : 
     answers xid origin stands state (answer.Ack terms) is stood on =
         gated (Heard (Some x)) turn.site.noarp _ _
         (takes terms (Bound xid terms None) is (λ a h. (a, h)))
-        (takes terms (Checking xid terms origin (detection.acd_begun turn.site.iface.index terms.net.ip turn.at turn.salt) stands) is (λ a h. (a, (h.0, tt), stood)))
+        (takes terms (Checking xid terms origin (detection.acd_begun turn.site.iface.index terms.net.ip turn.at turn.salt) stands) is
+        (λ a h. (a, (h.0, tt), stood)))
     answers xid origin stands state answer.Nak is stood on = record { xid = last; on = tt }
     answers xid origin stands state answer.Nothing is stood on = waits state answer.Nothing is refl on
     answers xid origin stands state (answer.Offer address server) is stood on = waits state (answer.Offer address server) is refl on
@@ -175,7 +177,10 @@ module _ (settings : SettingsContent) (arrival : Arrival) (turn : Turn4) (now : 
   selecting_in : (current : Option Numbered) (xid began secs : ℕ) (backoff : Backoff) (due : ℕ) → current ≡ None
       → Heard current (offered turn xid secs (Selecting xid began secs backoff due) (offer_by settings arrival (answering settings xid arrival)))
   selecting_in current xid began secs backoff due none =
-      subst (λ (c : Option Numbered). Heard c (offered turn xid secs (Selecting xid began secs backoff due) (offer_by settings arrival (answering settings xid arrival)))) (sym none)
+      subst
+      (λ (c : Option Numbered). Heard c
+      (offered turn xid secs (Selecting xid began secs backoff due) (offer_by settings arrival (answering settings xid arrival))))
+      (sym none)
       (offering xid secs (Selecting xid began secs backoff due) (offer_by settings arrival (answering settings xid arrival)) refl refl)
 
   -- where nothing is held or asked for it doesn't count what is said
@@ -188,9 +193,12 @@ module _ (settings : SettingsContent) (arrival : Arrival) (turn : Turn4) (now : 
   heard_watched current Off last on = free current Off last (λ grant answered. tt)
   heard_watched current (Init due) last on = free current (Init due) last (λ grant answered. tt)
   heard_watched current (Selecting xid began secs backoff due) last on = selecting_in current xid began secs backoff due on
-  heard_watched current (Requesting exchange secs backoff due) last on = answering_in current exchange Offered None (Requesting exchange secs backoff due) last on tt on
-  heard_watched current (Rebooting exchange backoff end due stands) last on = answering_in current exchange Rebooted stands (Rebooting exchange backoff end due stands) last on.0 on.1 on
-  heard_watched current (Checking xid terms origin acd stands) last on = unheard current (Checking xid terms origin acd stands) last (settled reply current k on.0) on
+  heard_watched current (Requesting exchange secs backoff due) last on =
+      answering_in current exchange Offered None (Requesting exchange secs backoff due) last on tt on
+  heard_watched current (Rebooting exchange backoff end due stands) last on =
+      answering_in current exchange Rebooted stands (Rebooting exchange backoff end due stands) last on.0 on.1 on
+  heard_watched current (Checking xid terms origin acd stands) last on =
+      unheard current (Checking xid terms origin acd stands) last (settled reply current k on.0) on
   heard_watched current (Waiting due) last on = free current (Waiting due) last (λ grant answered. tt)
   heard_watched current (Bound xid terms acd) last on = unheard current (Bound xid terms acd) last (settled reply current k on.0) on
   heard_watched current (Renewing exchange terms acd due) last on =
@@ -244,7 +252,8 @@ module _ (turn : Turn4) (count : ℕ) (current : Option Numbered) (k : Kept) (wi
   arp_watched own arp (Requesting exchange secs backoff due) on = stays (Requesting exchange secs backoff due) on
   arp_watched own arp (Rebooting exchange backoff end due stands) on = stays (Rebooting exchange backoff end due stands) on
   arp_watched own arp (Checking xid terms origin acd stands) on =
-      checks turn count current k within last xid terms origin (detection.acd_hears own acd arp turn.at).acd stands (detection.acd_hears own acd arp turn.at).says on
+      checks turn count current k within last xid terms origin (detection.acd_hears own acd arp turn.at).acd stands
+      (detection.acd_hears own acd arp turn.at).says on
       (λ passed. absurd (never_passes own acd.iface acd.addr acd.phase arp turn.at passed))
   arp_watched own arp (Waiting due) on = stays (Waiting due) on
   arp_watched own arp (Bound xid terms acd) on = contests own arp xid terms (Bound xid terms acd) acd (λ next. on) on
@@ -263,7 +272,9 @@ module _ (turn : Turn4) (count : ℕ) (current : Option Numbered) (k : Kept) (wi
       let end : ℕ = turn.at + SECOND * turn.site.reboot in
       let stands : Option Terms4 = stood turn may_stand terms in
       split (is_due (expiry terms) turn.at || eqb turn.site.reboot 0) (λ over. rw over (record { xid = last; on = tt }))
-      (λ asks. rw asks (asks_anew (Lasts turn.at) turn.at (sent_of (request turn.site exchange 0)).said exchange (rebooting turn exchange Four end stands).state count current k within
+      (λ asks. rw asks
+      (asks_anew (Lasts turn.at) turn.at (sent_of (request turn.site exchange 0)).said exchange
+      (rebooting turn exchange Four end stands).state count current k within
       (fresh turn current last) refl (λ x is. (is, stood_lasts may_stand terms (first_false (is_due (expiry terms) turn.at) (eqb turn.site.reboot 0) asks)))))
 
   pub begin_watched : (may_stand : Bool) (kept : Option Terms4) (state : State4) → On (Lasts turn.at) state current k.answered k.grant

@@ -115,7 +115,8 @@ module _ (turn : Turn4) (count : ℕ) (current : Option Numbered) (k : Kept) (wi
   defends xid terms state Conflict on = record { xid = last; on = on }
   defends xid terms state GivenUp on = record { xid = tt; on = tt }
 
-  detecting : (xid : ℕ) (terms : Terms4) (state : State4) (acd : Option Acd) → ((acd : Acd) → On (Lasts turn.at) (with_acd state acd) current k.answered k.grant)
+  detecting : (xid : ℕ) (terms : Terms4) (state : State4) (acd : Option Acd)
+      → ((acd : Acd) → On (Lasts turn.at) (with_acd state acd) current k.answered k.grant)
       → On (Lasts turn.at) state current k.answered k.grant → After (detects turn xid terms state acd)
   detecting xid terms state None with_on on = record { xid = last; on = on }
   detecting xid terms state (Some acd) with_on on =
@@ -160,7 +161,8 @@ module _ (turn : Turn4) (count : ℕ) (current : Option Numbered) (k : Kept) (wi
       asks_again (Lasts turn.at) turn.at (sent_of (request turn.site exchange secs)).said exchange (requesting turn exchange secs backoff).state
       count current k refl (asked_xid exchange k.answered current asks) asks asks
 
-  reboots_again : (exchange : Exchange4) (backoff : Backoff) (end : ℕ) (stands : Option Terms4) → Asks exchange k.answered current → IfSome stands (Lasts turn.at)
+  reboots_again : (exchange : Exchange4) (backoff : Backoff) (end : ℕ) (stands : Option Terms4) → Asks exchange k.answered current
+      → IfSome stands (Lasts turn.at)
       → After (rebooting turn exchange backoff end stands)
   reboots_again exchange backoff end stands asks lasts =
       asks_again (Lasts turn.at) turn.at (sent_of (request turn.site exchange 0)).said exchange (rebooting turn exchange backoff end stands).state

@@ -156,4 +156,6 @@ drawn salt iface last = other_xid (xid_of salt iface) last (omega arith)
 
 pub fresh : (turn : Turn4) (current : Option Numbered) → LastXid turn.last current → IsFresh (new_xid turn) current
 fresh turn None l = tt
-fresh turn (Some x) l = subst (λ (last : Option ℕ). (draw_xid_of turn.salt turn.site.iface.index last == x.exchange.xid) ≡ false) (sym l) (drawn turn.salt turn.site.iface.index x.exchange.xid)
+fresh turn (Some x) l =
+    subst (λ (last : Option ℕ). (draw_xid_of turn.salt turn.site.iface.index last == x.exchange.xid) ≡ false) (sym l)
+    (drawn turn.salt turn.site.iface.index x.exchange.xid)

@@ -1,5 +1,5 @@
--- When the basis of a lease ends before its time (RFC 2131, section 4.4), told of whole lists of turns: those after a turn, that
--- turn, and those before it.
+-- When the basis of a lease ends before its time (RFC 2131, section 4.4), told of whole lists of turns: those after a
+-- turn, that turn, and those before it.
 use Rattle.std.specs.Prelude.{◌≡◌, ℕ, true, false, List, ◌∷◌, ◌++◌, Some}
 use Rattle.std.specs.List.{Contains}
 use Rattle.machine.specs.Since.{Always}
@@ -25,7 +25,8 @@ GrantedNoMore site net turns earlier = EachAfter (λ e past. Grants site net e p
 -- Where a turn is as `Ends` says, and no turn since then granted the address, the address has no basis.
 abbrev pub EndsBy : (Ends : Site → Entry → List Entry → Type 0) → Type 0
 EndsBy Ends = (site : Site) (net : Net) (now : ℕ) (later : List Entry) (e : Entry) (earlier : List Entry)
-    → Ends site e earlier → GrantedNoMore site net later (e ∷ earlier) → LeaseBasis site net now (later ++ e ∷ earlier) → ⊥
+    → Ends site e earlier → GrantedNoMore site net later (e ∷ earlier) → LeaseBasis site net now (later ++ e ∷ earlier)
+    → ⊥
 
 -- the interface had carrier before the turn, and has none after it
 pub record LosesCarrier (site : Site) (e : Entry) (earlier : List Entry) : Type 0 where
@@ -70,15 +71,18 @@ pub record GrantsAnew (site : Site) (terms : Terms4) (e : Entry) (earlier : List
 
 -- no acceptable ACK in another exchange than this one
 abbrev pub GrantsNoOther : Site → Numbered → Entry → List Entry → Type 0
-GrantsNoOther site opened e past = (other : Numbered) (terms : Terms4) → GoodAck site other terms e past → other ≡ opened
+GrantsNoOther site opened e past =
+    (other : Numbered) (terms : Terms4) → GoodAck site other terms e past → other ≡ opened
 
 -- what a lease gives, and that it isn't over
 pub record IsOfTerms (opened : Numbered) (terms : Terms4) (net : Net) (now : ℕ) : Type 0 where
   pub gives : net ≡ V4 terms.net
   pub lasts : IsOver opened terms now → ⊥
 
--- Once an exchange is granted, its first ACK alone says which address has a basis and how long, until another one is granted.
+-- Once an exchange is granted, its first ACK alone says which address has a basis and how long, until another one is
+-- granted.
 abbrev pub NewestCounts : Type 0
-NewestCounts = (site : Site) (net : Net) (now : ℕ) (later : List Entry) (e : Entry) (earlier : List Entry) (terms : Terms4)
+NewestCounts =
+    (site : Site) (net : Net) (now : ℕ) (later : List Entry) (e : Entry) (earlier : List Entry) (terms : Terms4)
     → (granted : GrantsAnew site terms e earlier) → EachAfter (GrantsNoOther site granted.opened) later (e ∷ earlier)
     → LeaseBasis site net now (later ++ e ∷ earlier) → IsOfTerms granted.opened terms net now

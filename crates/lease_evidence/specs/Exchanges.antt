@@ -35,10 +35,12 @@ address_asked (Some address) ciaddr = address
 address_asked None ciaddr = ciaddr
 
 abbrev pub exchange_of : (at : ℕ) → Said4 → Exchange4
-exchange_of at said = record { xid = said.xid; address = address_asked said.asked said.ciaddr; server = said.server; first = at }
+exchange_of at said =
+    record { xid = said.xid; address = address_asked said.asked said.ciaddr; server = said.server; first = at }
 
 abbrev pub opens : (at : ℕ) → Said4 → (count : ℕ) → Seen
-opens at said count = record { count = count + 1; current = Some (record { number = count + 1; exchange = exchange_of at said }) }
+opens at said count =
+    record { count = count + 1; current = Some (record { number = count + 1; exchange = exchange_of at said }) }
 
 abbrev pub closes : Seen → Seen
 closes seen = record seen { current = None }

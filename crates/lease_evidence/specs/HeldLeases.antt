@@ -44,8 +44,8 @@ abbrev pub PlainLeasesAreGranted : Type 0
 PlainLeasesAreGranted = (site : Site) (net : Net) (now : ℕ) (past : List Entry) → IsPlain4 site
     → LeaseRests site net now past → LeaseBasis site net now past
 
--- A held lease has its basis, and is as the ACK of that basis says: these are its terms, and its time counts from the first
--- REQUEST of that exchange.
+-- A held lease has its basis, and is as the ACK of that basis says: these are its terms, and its time counts from the
+-- first REQUEST of that exchange.
 pub record IsAsGranted (site : Site) (lease : LeaseContent) (now : ℕ) (past : List Entry) : Type 0 where
   pub basis : LeaseBasis site (V4 lease.net) now past
   pub terms : terms_of lease ≡ basis.terms

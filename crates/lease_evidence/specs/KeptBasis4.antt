@@ -52,9 +52,9 @@ IsUnrefused site e past = (opened : Numbered) → GoodNak site opened e past →
 
 -- ---- the basis
 
--- `persistent` is in force, and the lease that was kept for the interface tells its origin, gives the address and isn't over
--- now. The carrier is up and never went, and neither a release nor a stop came. Each DHCPv4 message of this life, and there was
--- one, is a REQUEST of one exchange for the address, and the exchange isn't refused.
+-- `persistent` is in force, and the lease that was kept for the interface tells its origin, gives the address and isn't
+-- over now. The carrier is up and never went, and neither a release nor a stop came. Each DHCPv4 message of this life,
+-- and there was one, is a REQUEST of one exchange for the address, and the exchange isn't refused.
 pub record KeptBasis4 (site : Site) (net : Net) (now : ℕ) (past : List Entry) : Type 0 where
   pub persistent : site.managed.conf.persistent ≡ true
   pub lease : LeaseContent

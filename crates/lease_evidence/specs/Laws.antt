@@ -40,7 +40,8 @@ EndsWithLease = (site : Site) (net : Net) (now : ℕ) (past : List Entry)
 -- a message with another transaction id than the exchange's, or with another hardware address than the interface's
 abbrev pub IsForeign : Site → Numbered → Arrival → Type 0
 IsForeign site opened arrival =
-    (arrival.message.xid ≢ opened.exchange.xid) ⊎ (bytes_eq arrival.message.chaddr.bytes site.managed.spec.mac.bytes ≡ false)
+    (arrival.message.xid ≢ opened.exchange.xid)
+    ⊎ (bytes_eq arrival.message.chaddr.bytes site.managed.spec.mac.bytes ≡ false)
 
 -- Each message that came in is foreign to the exchange that was open.
 abbrev pub HearsForeign : Site → Entry → List Entry → Type 0

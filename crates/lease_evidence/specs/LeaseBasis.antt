@@ -57,9 +57,9 @@ pub record CalmFor (site : Site) (opened : Numbered) (e : Entry) (past : List En
   pub no_ack : (later : Numbered) (terms : Terms4) → GoodAck site later terms e past → opened.number < later.number → ⊥
   pub no_nak : (later : Numbered) → GoodNak site later e past → opened.number < later.number → ⊥
 
--- The last exchange in which an acceptable ACK came: the first one there gives this very address, and its time, from the first
--- REQUEST on, isn't over. After it came calm turns alone, and no later exchange had an ACK or a NAK. Unless addresses aren't
--- to be probed, the address was, each turn after that of the first probe being calm.
+-- The last exchange in which an acceptable ACK came: the first one there gives this very address, and its time, from
+-- the first REQUEST on, isn't over. After it came calm turns alone, and no later exchange had an ACK or a NAK. Unless
+-- addresses aren't to be probed, the address was, each turn after that of the first probe being calm.
 pub record LeaseBasis (site : Site) (net : Net) (now : ℕ) (past : List Entry) : Type 0 where
   pub opened : Numbered
   pub terms : Terms4

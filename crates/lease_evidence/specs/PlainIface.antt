@@ -32,7 +32,16 @@ plain_eth0 = record {
     address = None;
     address6 = None;
     router = None;
-    dhcp4 = record { host = []; vendor = []; identifier = Hardware; asked = []; refused = []; required = []; blacklist = [] };
+    dhcp4 =
+        record {
+          host = [];
+          vendor = [];
+          identifier = Hardware;
+          asked = [];
+          refused = [];
+          required = [];
+          blacklist = [];
+        };
     dhcp6 = record { rapid = false; ias = []; shares = [] };
     resolver = record { servers = []; search = []; domain = [] };
     hooks = record { script = Nothing; env = [] };

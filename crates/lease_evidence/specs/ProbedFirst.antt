@@ -1,5 +1,5 @@
--- That a leased address which is to be probed has no basis before that is done (RFC 5227, section 2.1.1), nor with probes that
--- don't count. Moments are in milliseconds.
+-- That a leased address which is to be probed has no basis before that is done (RFC 5227, section 2.1.1), nor with
+-- probes that don't count. Moments are in milliseconds.
 use Rattle.std.specs.Prelude.{◌≡◌, ℕ, ◌+◌, ◌≤◌, ◌<◌, true, false, List, [], ◌∷◌, ◌++◌, ◌⊎◌}
 use Rattle.machine.specs.Since.{Always}
 use Rattle.net_types.specs.declared.address.Net.TheVariants.{V4}
@@ -37,6 +37,7 @@ ContestsPartProbes = (site : Site) (addr : Net4) (now : ℕ) (later : List Entry
 
 -- Nor does an address have one within four seconds of the first probe for it.
 abbrev pub ProbesTakeFourSeconds : Type 0
-ProbesTakeFourSeconds = (site : Site) (addr : Net4) (now first : ℕ) (past : List Entry) → site.managed.conf.noarp ≡ false
+ProbesTakeFourSeconds =
+    (site : Site) (addr : Net4) (now first : ℕ) (past : List Entry) → site.managed.conf.noarp ≡ false
     → Always (λ e earlier. probe_taken site addr.ip (offers_at site e) ≡ true → first ≤ e.moment) past
     → Always (λ e earlier. e.moment < first + 4000) past → LeaseBasis site (V4 addr) now past → ⊥

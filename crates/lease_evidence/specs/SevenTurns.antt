@@ -30,7 +30,8 @@ granted = record { number = 0xc0a8_0107 }
 
 -- eth0, with `nodelay` and neither link-local address nor a limit in time
 abbrev pub interface : Managed
-interface = record plain_eth0 { conf = record plain_eth0.conf { noipv4ll = true; nodelay = true; timeout = 0; reboot = 0 } }
+interface =
+    record plain_eth0 { conf = record plain_eth0.conf { noipv4ll = true; nodelay = true; timeout = 0; reboot = 0 } }
 
 -- the DUID of the host, made of the interface's hardware address
 abbrev pub duid : List ℕ
@@ -47,11 +48,13 @@ reply_text options =
 -- the type, the server 192.168.1.1, an hour, and the mask 255.255.255.0
 abbrev pub options_text : (kind : ℕ) → List ℕ
 options_text kind =
-    (53 ∷ 1 ∷ kind ∷ []) ++ (54 ∷ 4 ∷ 192 ∷ 168 ∷ 1 ∷ 1 ∷ []) ++ (51 ∷ 4 ∷ 0 ∷ 0 ∷ 14 ∷ 16 ∷ []) ++ (1 ∷ 4 ∷ 255 ∷ 255 ∷ 255 ∷ 0 ∷ [])
+    (53 ∷ 1 ∷ kind ∷ []) ++ (54 ∷ 4 ∷ 192 ∷ 168 ∷ 1 ∷ 1 ∷ []) ++ (51 ∷ 4 ∷ 0 ∷ 0 ∷ 14 ∷ 16 ∷ [])
+    ++ (1 ∷ 4 ∷ 255 ∷ 255 ∷ 255 ∷ 0 ∷ [])
 
 abbrev pub reply_frame : (kind : ℕ) → List ℕ
 reply_frame kind =
-    udp4_frame_text (record { from_mac = server_mac; to_mac = client_mac; from = server; to = granted }) SERVER_PORT CLIENT_PORT
+    udp4_frame_text
+    (record { from_mac = server_mac; to_mac = client_mac; from = server; to = granted }) SERVER_PORT CLIENT_PORT
     (reply_text (options_text kind))
 
 -- ---- what the client says
@@ -63,7 +66,10 @@ abbrev pub discovers : List Offer
 discovers = says (Dhcp4 (discover (site_of interface) 1 0))
 
 abbrev pub requests : List Offer
-requests = says (Dhcp4 (request (site_of interface) (record { xid = 1; address = granted; server = Some server; first = 2000 }) 0))
+requests =
+    says
+    (Dhcp4
+    (request (site_of interface) (record { xid = 1; address = granted; server = Some server; first = 2000 }) 0))
 
 abbrev pub probes : List Offer
 probes = says (Arp (Probe granted))
@@ -81,7 +87,8 @@ abbrev pub opening : Opening
 opening = record { up = 1; at = 1000; salt = 0; offers = [] }
 
 abbrev pub met : ℕ → Event → List ℕ → List Offer → Met
-met at event bytes offers = record { turn = record { at = at; salt = 0; unsent = 0; event = event; bytes = bytes }; offers = offers }
+met at event bytes offers =
+    record { turn = record { at = at; salt = 0; unsent = 0; event = event; bytes = bytes }; offers = offers }
 
 -- DISCOVER; an OFFER, and REQUEST; an ACK; three probes; the announcement. The newest is the first.
 abbrev pub seven_turns : List Met

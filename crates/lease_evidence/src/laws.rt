@@ -17,20 +17,20 @@ ghost use Rattle.lease_evidence.specs.PlainIface.{client_mac};
 ghost use Rattle.lease_evidence.specs.ProbedFirst.{ContestsPartProbes, NeedsThreeProbes, ProbesBeginAnew, ProbesTakeFourSeconds};
 ghost use Rattle.lease_evidence.specs.SevenTurns.{beginning, lease, opening, server_mac, seven_turns};
 
-/// Law: each lease that an interface holds after its opening and some turns, with any outcomes of its frames, has its basis
-/// in what they showed: an ACK in its own exchange, unexpired, probed and not given up since (RFC 2131, section 4.4); or,
-/// under `persistent`, it is the lease that was kept with its origin, unexpired, and a server is asked to confirm it.
-/// Without the flag or an origin it is the former, and the lease has the terms of that ACK, and its time counts from the first
-/// REQUEST of the exchange.
+/// Law: each lease that an interface holds after its opening and some turns, with any outcomes of its frames, has its
+/// basis in what they showed: an ACK in its own exchange, unexpired, probed and not given up since (RFC 2131, section
+/// 4.4); or, under `persistent`, it is the lease that was kept with its origin, unexpired, and a server is asked to
+/// confirm it. Without the flag or an origin it is the former, and the lease has the terms of that ACK, and its time
+/// counts from the first REQUEST of the exchange.
 pub fn held_leases_have_a_basis()
     ensures each { HeldLeasesHaveBasis }
     ensures plain { PlainLeasesAreGranted }
     ensures as_granted { PlainLeasesAreAsGranted }
 {}
 
-/// Law: after the opening no interface holds a lease without `persistent`, nor one that was kept without its origin: such a
-/// lease is held only after an exchange of this life (RFC 2131, section 3.2). Without `persistent` its static addresses
-/// alone give it rows. What is held is the kept lease, which a server was asked to confirm.
+/// Law: after the opening no interface holds a lease without `persistent`, nor one that was kept without its origin:
+/// such a lease is held only after an exchange of this life (RFC 2131, section 3.2). Without `persistent` its static
+/// addresses alone give it rows. What is held is the kept lease, which a server was asked to confirm.
 pub fn a_kept_lease_is_not_held_at_first()
     ensures none { BeginsWithoutLease }
     ensures rows { BeginsWithStaticRows }
@@ -53,8 +53,8 @@ pub fn disturbed_kept_leases_end()
     ensures stop { KeptEndsBy IsToldToStop }
 {}
 
-/// Law: nor before a REQUEST, nor once the client said another DHCPv4 message, named a server or began a second exchange,
-/// nor once a NAK came in an exchange that had no ACK (RFC 2131, sections 3.2 and 4.3.2).
+/// Law: nor before a REQUEST, nor once the client said another DHCPv4 message, named a server or began a second
+/// exchange, nor once a NAK came in an exchange that had no ACK (RFC 2131, sections 3.2 and 4.3.2).
 pub fn kept_leases_are_asked_for_alone()
     ensures asked { NeedsAsking }
     ensures others { KeptEndsBy SaysElse }
@@ -81,8 +81,8 @@ pub fn foreign_replies_give_nothing()
     ensures { ForeignGivesNothing }
 {}
 
-/// Law: no address has one once the carrier was lost, the leases are to be given back, or the daemon is to end, unless an ACK
-/// granted it since (RFC 2131, sections 4.4.5 and 4.4.6).
+/// Law: no address has one once the carrier was lost, the leases are to be given back, or the daemon is to end, unless
+/// an ACK granted it since (RFC 2131, sections 4.4.5 and 4.4.6).
 pub fn disturbed_leases_end()
     ensures carrier { EndsBy LosesCarrier }
     ensures release { EndsBy IsGivenBack }
@@ -106,9 +106,9 @@ pub fn the_newest_lease_counts()
     ensures { NewestCounts }
 {}
 
-/// Law: unless addresses aren't to be probed, no address has a basis as a leased one before the link took three probes for it,
-/// anew after each turn that ends a lease, none of them apart from the others by a contest, and before four seconds are over
-/// (RFC 5227, section 2.1.1).
+/// Law: unless addresses aren't to be probed, no address has a basis as a leased one before the link took three probes
+/// for it, anew after each turn that ends a lease, none of them apart from the others by a contest, and before four
+/// seconds are over (RFC 5227, section 2.1.1).
 pub fn leases_need_three_probes()
     ensures probes { NeedsThreeProbes }
     ensures anew { ProbesBeginAnew }
@@ -116,15 +116,15 @@ pub fn leases_need_three_probes()
     ensures seconds { ProbesTakeFourSeconds }
 {}
 
-/// Law: nor has an address one for which no REQUEST asked, nor longer after the last REQUEST for it than its leases last (RFC
-/// 2131, sections 3.1 and 4.4.1).
+/// Law: nor has an address one for which no REQUEST asked, nor longer after the last REQUEST for it than its leases
+/// last (RFC 2131, sections 3.1 and 4.4.1).
 pub fn leases_are_asked_for()
     ensures asked { NeedsRequest }
     ensures lasts { LastsFromRequest }
 {}
 
-/// Law: nor one by an ACK to which no REQUEST belongs that was said after DISCOVER, DECLINE and RELEASE (RFC 2131, section
-/// 3.1).
+/// Law: nor one by an ACK to which no REQUEST belongs that was said after DISCOVER, DECLINE and RELEASE (RFC 2131,
+/// section 3.1).
 pub fn leases_need_a_new_request()
     ensures discover { NeedsNewRequest Discover }
     ensures decline { NeedsNewRequest Decline }
@@ -140,7 +140,8 @@ pub fn other_interfaces_give_nothing()
 pub fn seven_turns_grant_a_lease()
     ensures lived { IsLived (client_mac ∷ []) beginning opening seven_turns }
     ensures held { held_of (iface_after (client_mac ∷ []) beginning opening seven_turns).dhcp4 ≡ Some lease }
-    ensures basis { LeaseBasis (site_of (client_mac ∷ []) beginning opening) (V4 lease.net) 6503 (shown opening seven_turns) }
+    ensures basis { LeaseBasis (site_of (client_mac ∷ []) beginning opening) (V4 lease.net) 6503
+        (shown opening seven_turns) }
 {}
 
 /// Law: over every life of an interface each message of DHCPv4 that it says is read in its frame as it is, as the

@@ -45,7 +45,9 @@ settled_alone : (name : List ℕ) (told : StoreTold) (files : List StoreFile) (c
     → file_at name told.files ≡ content → LeavesFiles (SettledFiles true) told.files files → IsLeft name content (store_answered (SettledFiles true) files told)
 settled_alone name told files content synced reads leaves left may =
     by (subst (λ (f : ChangedFile). MayBe f left)
-    (settled_here name told (left_of name told) refl files leaves ∙ ap (λ (b : Bool). cond b (left_of name told) (unchanged name (file_at name told.files))) synced) may)
+    (settled_here name told (left_of name told) refl files leaves
+    ∙ ap (λ (b : Bool). cond b (left_of name told) (unchanged name (file_at name told.files))) synced)
+    may)
   where
     by : MayBe (unchanged name (file_at name told.files)) left → left ≡ content
     by (inl torn) = cc
@@ -69,8 +71,10 @@ module _ (name bytes : List ℕ) where
     spares : (other : List ℕ) → is_name other name ≡ false → is_name other (aside_of name) ≡ false → AllByRecursion (Spares other) calls
 
   rename_may : (done : Bool) → MayCome kept (RenamedAside name done) (cond (is_name name name) (Synced name bytes) Idle)
-  rename_may done =
-      (subst (IsSyncedFor name) (sym (ap (λ (b : Bool). cond b (Synced name bytes) Idle) (name_itself name))) (name_itself name), ap (λ (b : Bool). b || false) (name_itself name))
+  rename_may done = (
+    subst (IsSyncedFor name) (sym (ap (λ (b : Bool). cond b (Synced name bytes) Idle) (name_itself name))) (name_itself name),
+    ap (λ (b : Bool). b || false) (name_itself name),
+  )
 
   none_made : IsSaving []
   none_made = record { turn = tt; apart = tt; gives = tt; spares = λ other m a. tt }
@@ -121,9 +125,12 @@ module _ (name bytes : List ℕ) where
     all_kept calls is goes = saving_keeps calls is (length calls) (subst (λ (cs : List StoreCall). Goes failing cs before after) (sym (all_taken calls)) goes)
 
     saved_alone : Goes failing (save_calls name bytes) before after → IsLeft name (Some bytes) after
-    saved_alone goes = subst (IsLeft name (Some bytes)) (sym fourth.2) (settled_alone name three fourth.0 (Some bytes) whole3 there3 (leaves_files failing (SettledFiles true) third.0 fourth.0 fourth.1.leaves))
+    saved_alone goes =
+        subst (IsLeft name (Some bytes)) (sym fourth.2)
+        (settled_alone name three fourth.0 (Some bytes) whole3 there3 (leaves_files failing (SettledFiles true) third.0 fourth.0 fourth.1.leaves))
       where
-        second : Goes failing (SyncedAside name true ∷ RenamedAside name true ∷ SettledFiles true ∷ []) (store_answered (WroteAside name bytes true) goes.0 before) after
+        second : Goes failing (SyncedAside name true ∷ RenamedAside name true ∷ SettledFiles true ∷ [])
+            (store_answered (WroteAside name bytes true) goes.0 before) after
         second = goes.2
 
         one : StoreTold
@@ -145,14 +152,17 @@ module _ (name bytes : List ℕ) where
         there1 = aside_written before name bytes goes.0 (leaves_files failing (WroteAside name bytes true) before.files goes.0 goes.1.leaves)
 
         there2 : file_at (aside_of name) second.0 ≡ Some bytes
-        there2 = ap (file_at (aside_of name)) (sync_files one name true second.0 (leaves_files failing (SyncedAside name true) goes.0 second.0 second.1.leaves)) ∙ there1
+        there2 =
+            ap (file_at (aside_of name)) (sync_files one name true second.0 (leaves_files failing (SyncedAside name true) goes.0 second.0 second.1.leaves))
+            ∙ there1
 
         whole2 : (left_of (aside_of name) two).unsynced ≡ false
         whole2 = ap (λ (f : ChangedFile). f.unsynced) (aside_synced one name bytes there1 (file_at (aside_of name) second.0))
 
         there3 : file_at name third.0 ≡ Some bytes
         there3 =
-            ap (file_at name) (done_files (RenamedAside name true) second.0 third.0 refl (leaves_files failing (RenamedAside name true) second.0 third.0 third.1.leaves)
+            ap (file_at name)
+            (done_files (RenamedAside name true) second.0 third.0 refl (leaves_files failing (RenamedAside name true) second.0 third.0 third.1.leaves)
             ∙ ap (λ (o : Option (List ℕ)). rename_file name o second.0) there2)
             ∙ file_left (aside_of name) name (put_file (record { name = name; bytes = bytes }) second.0) (unlike_aside name)
             ∙ file_found name bytes second.0
@@ -211,7 +221,8 @@ module _ (name : List ℕ) where
     }
 
     all_removed : (calls : List StoreCall) → IsRemoving calls → Goes failing calls before after → KeepsOrRemoves name before after
-    all_removed calls is goes = removing_keeps calls is (length calls) (subst (λ (cs : List StoreCall). Goes failing cs before after) (sym (all_taken calls)) goes)
+    all_removed calls is goes =
+        removing_keeps calls is (length calls) (subst (λ (cs : List StoreCall). Goes failing cs before after) (sym (all_taken calls)) goes)
 
     removed_alone : Goes failing (remove_calls name) before after → IsLeft name None after
     removed_alone goes =
@@ -233,7 +244,8 @@ removing_whole failing name before after sound = record {
 
 -- ---- whatever a call of the three answers
 
-pub whole_in_turn : (failing : Option StoreFails) (names : List (List ℕ)) (calls : List StoreCall) (old new : Option StoreTold) → AreInTurn names calls Idle → Answered failing calls old new
+pub whole_in_turn : (failing : Option StoreFails) (names : List (List ℕ)) (calls : List StoreCall) (old new : Option StoreTold) → AreInTurn names calls Idle
+    → Answered failing calls old new
     → LeavesWhole failing names old new
 whole_in_turn failing names calls old new turn answered = record { calls = calls; answered = answered; whole = by old }
   where
@@ -241,7 +253,8 @@ whole_in_turn failing names calls old new turn answered = record { calls = calls
     by None = tt
     by (Some before) = stay_whole failing names calls before turn
 
-pub saves_whole : {T : Type 0} (failing : Option StoreFails) (name bytes : List ℕ) (old new : Option StoreTold) (result : Result T SaveFault) → Saves failing name bytes old new result
+pub saves_whole : {T : Type 0} (failing : Option StoreFails) (name bytes : List ℕ) (old new : Option StoreTold) (result : Result T SaveFault)
+    → Saves failing name bytes old new result
     → LeavesWhole failing (name ∷ []) old new
 saves_whole failing name bytes old new (Ok x) saves = whole_in_turn failing (name ∷ []) (save_calls name bytes) old new (settled name bytes true).turn saves
 saves_whole failing name bytes old new (Err (Failed failed)) saves =
@@ -250,7 +263,8 @@ saves_whole failing name bytes old new (Err NoMemory) saves =
     whole_in_turn failing (name ∷ []) (take saves.0 (save_calls name bytes)) old new
     (front_in_turn (name ∷ []) (save_calls name bytes) Idle saves.0 (settled name bytes true).turn) saves.2
 
-pub removes_whole : {T : Type 0} (failing : Option StoreFails) (name : List ℕ) (old new : Option StoreTold) (result : Result T SaveFault) → Removes failing name old new result
+pub removes_whole : {T : Type 0} (failing : Option StoreFails) (name : List ℕ) (old new : Option StoreTold) (result : Result T SaveFault)
+    → Removes failing name old new result
     → LeavesWhole failing (name ∷ []) old new
 removes_whole failing name old new (Ok x) removes = whole_in_turn failing (name ∷ []) (remove_calls name) old new (removal_settled name true).turn removes
 removes_whole failing name old new (Err (Failed failed)) removes =
@@ -278,7 +292,8 @@ others_stay failing before after sound calls name of goes plain =
     (spared_untouched failing name calls before after (all_map IsOfAsides (Spares name) (aside_spares name plain) calls of) sound (length calls)
     (subst (λ (cs : List StoreCall). Goes failing cs before after) (sym (all_taken calls)) goes)).stays
 
-removals_of : (removed : List Cleared) → AllByRecursion (λ (cleared : Cleared). is_aside (string_bytes cleared.name) ≡ true) removed → AllByRecursion IsOfAsides (removal_calls removed)
+removals_of : (removed : List Cleared) → AllByRecursion (λ (cleared : Cleared). is_aside (string_bytes cleared.name) ≡ true) removed
+    → AllByRecursion IsOfAsides (removal_calls removed)
 removals_of [] asides = tt
 removals_of (cleared ∷ removed) asides = (asides.0, removals_of removed asides.1)
 
@@ -287,40 +302,49 @@ settling_of None = tt
 settling_of (Some done) = (tt, tt)
 
 pub clears_asides : (clearing : Clearing) → ClearsAsides clearing
-clears_asides clearing asides =
-    (tt, all_join IsOfAsides (removal_calls clearing.removed.items) (settling_calls clearing.settled) (removals_of clearing.removed.items asides) (settling_of clearing.settled))
+clears_asides clearing asides = (
+  tt,
+  all_join IsOfAsides (removal_calls clearing.removed.items) (settling_calls clearing.settled) (removals_of clearing.removed.items asides)
+      (settling_of clearing.settled),
+)
 
 -- ---- a clearing, whatever it answers
 
-removals_turn : (removed : List Cleared) (more : List StoreCall) → AllByRecursion (λ name. is_aside name ≡ true) (map (λ (cleared : Cleared). string_bytes cleared.name) removed)
+removals_turn : (removed : List Cleared) (more : List StoreCall)
+    → AllByRecursion (λ name. is_aside name ≡ true) (map (λ (cleared : Cleared). string_bytes cleared.name) removed)
     → AreInTurn [] more Idle → AreInTurn [] (removal_calls removed ++ more) Idle
 removals_turn [] more asides turn = turn
 removals_turn (cleared ∷ removed) more asides turn =
     λ _. (
       (tt, ap (λ (b : Bool). b || false) asides.0),
-      subst (λ (b : Bool). AreInTurn [] (removal_calls removed ++ more) (cond b Idle (cond cleared.ok Put Idle))) (sym asides.0) (removals_turn removed more asides.1 turn),
+      subst (λ (b : Bool). AreInTurn [] (removal_calls removed ++ more) (cond b Idle (cond cleared.ok Put Idle))) (sym asides.0)
+          (removals_turn removed more asides.1 turn),
     )
 
 settling_turn : (settled : Option Bool) → AreInTurn [] (settling_calls settled) Idle
 settling_turn None = tt
 settling_turn (Some done) = λ _. (tt, tt)
 
-front_named : (removed rest : List (List ℕ)) → AllByRecursion (λ name. is_aside name ≡ true) (removed ++ rest) → AllByRecursion (λ name. is_aside name ≡ true) removed
+front_named : (removed rest : List (List ℕ)) → AllByRecursion (λ name. is_aside name ≡ true) (removed ++ rest)
+    → AllByRecursion (λ name. is_aside name ≡ true) removed
 front_named [] rest all = tt
 front_named (name ∷ removed) rest all = (all.0, front_named removed rest all.1)
 
 -- a listing, removals of some of what it named, and maybe a settling
-clearing_turn : (names : List (List ℕ)) (removed : List Cleared) (rest : List (List ℕ)) (settled : Option Bool) → map (λ (cleared : Cleared). string_bytes cleared.name) removed ++ rest ≡ names
+clearing_turn : (names : List (List ℕ)) (removed : List Cleared) (rest : List (List ℕ)) (settled : Option Bool)
+    → map (λ (cleared : Cleared). string_bytes cleared.name) removed ++ rest ≡ names
     → AreInTurn [] (listing_calls names ++ (removal_calls removed ++ settling_calls settled)) Idle
 clearing_turn names removed rest settled named =
     λ asides. (
       tt,
       removals_turn removed (settling_calls settled)
-          (front_named (map (λ (cleared : Cleared). string_bytes cleared.name) removed) rest (subst (λ (ns : List (List ℕ)). AllByRecursion (λ name. is_aside name ≡ true) ns) (sym named) asides))
+          (front_named (map (λ (cleared : Cleared). string_bytes cleared.name) removed) rest
+          (subst (λ (ns : List (List ℕ)). AllByRecursion (λ name. is_aside name ≡ true) ns) (sym named) asides))
           (settling_turn settled),
     )
 
-pub refused_whole : (failing : Option StoreFails) (old new : Option StoreTold) (fault : SaveFault) → BeginsListing failing old new fault → LeavesWhole failing [] old new
+pub refused_whole : (failing : Option StoreFails) (old new : Option StoreTold) (fault : SaveFault) → BeginsListing failing old new fault
+    → LeavesWhole failing [] old new
 refused_whole failing old new (Failed call) begun = whole_in_turn failing [] (ListedAsides None ∷ []) old new (λ _. (tt, tt)) begun
 refused_whole failing old new NoMemory same = whole_in_turn failing [] [] old new tt (by old same)
   where
@@ -341,8 +365,10 @@ begun_whole failing now names old listed new same first begun =
     (answered_more failing now (listing_calls (map string_bytes names)) (removal_calls begun.removed) old listed new same first begun.answered)
 
 -- all removals, and no settling
-pub settling_whole : (failing now : Option StoreFails) (removed : List Cleared) (names : List (String Global)) (old listed cleared new : Option StoreTold) → now ≡ failing
-    → map (λ (c : Cleared). c.name) removed ≡ names → Answered failing (listing_calls (map string_bytes names)) old listed → Answered now (removal_calls removed) listed cleared
+pub settling_whole : (failing now : Option StoreFails) (removed : List Cleared) (names : List (String Global)) (old listed cleared new : Option StoreTold)
+    → now ≡ failing
+    → map (λ (c : Cleared). c.name) removed ≡ names → Answered failing (listing_calls (map string_bytes names)) old listed
+    → Answered now (removal_calls removed) listed cleared
     → new ≡ cleared → LeavesWhole failing [] old new
 settling_whole failing now removed names old listed cleared new same named first later stays =
     begun_whole failing now names old listed new same first (record {
@@ -352,7 +378,8 @@ settling_whole failing now removed names old listed cleared new same named first
       answered = subst (λ (n : Option StoreTold). Answered now (removal_calls removed) listed n) (sym stays) later;
     })
 
-pub clears_whole : (failing : Option StoreFails) (old new : Option StoreTold) (result : Result Clearing SaveFault) → IfOk result (λ clearing. Answered failing (cleared_calls clearing) old new)
+pub clears_whole : (failing : Option StoreFails) (old new : Option StoreTold) (result : Result Clearing SaveFault)
+    → IfOk result (λ clearing. Answered failing (cleared_calls clearing) old new)
     → IfErr result (λ _. LeavesWhole failing [] old new) → LeavesWhole failing [] old new
 clears_whole failing old new (Ok clearing) answered begun =
     let names : List (List ℕ) = map (λ (c : Cleared). string_bytes c.name) clearing.removed.items in

@@ -47,7 +47,8 @@ pub calls_more : (names : List (Bor (List ℕ))) (i : ℕ) (d : Bor (List ℕ)) 
 calls_more names i d gots all g old mid new lt count is before here =
     let item = get_or names i d in
     let same : length gots ≡ length (texts_of (take i names)) = simp (length-map, length-take) (omega arith) in
-    let split : texts_of (take (i + 1) names) ≡ texts_of (take i names) ++ item.now ∷ [] = ap texts_of (take_more names i d lt) ∙ map-append (λ (n : Bor (List ℕ)). n.now) (take i names) (item ∷ []) in
+    let split : texts_of (take (i + 1) names) ≡ texts_of (take i names) ++ item.now ∷ [] =
+    ap texts_of (take_more names i d lt) ∙ map-append (λ (n : Bor (List ℕ)). n.now) (take i names) (item ∷ []) in
     here ∙ ap (with_calls (ReadFile item.now (got_reading g) ∷ [])) before
     ∙ with_calls-append (reading_calls (texts_of (take i names)) gots) (ReadFile item.now (got_reading g) ∷ []) old
     ∙ ap (λ (calls : List StoreCall). with_calls calls old)
@@ -59,8 +60,10 @@ pub missing_more : (names : List (Bor (List ℕ))) (i : ℕ) (d : Bor (List ℕ)
     → map got_reading gots ≡ map (λ _. Missing) (take i names) → map got_reading all ≡ map (λ _. Missing) (take (i + 1) names)
 missing_more names i d gots all g lt is none before =
     ap (map got_reading) is ∙ map-append got_reading gots (g ∷ [])
-    ∙ ap (λ (r : List Reading). r ++ got_reading g ∷ []) before ∙ ap (λ (x : Got). map (λ (n : Bor (List ℕ)). Missing) (take i names) ++ got_reading x ∷ []) none
-    ∙ sym (ap (map (λ (n : Bor (List ℕ)). Missing)) (take_more names i d lt) ∙ map-append (λ (n : Bor (List ℕ)). Missing) (take i names) (get_or names i d ∷ []))
+    ∙ ap (λ (r : List Reading). r ++ got_reading g ∷ []) before
+    ∙ ap (λ (x : Got). map (λ (n : Bor (List ℕ)). Missing) (take i names) ++ got_reading x ∷ []) none
+    ∙ sym
+    (ap (map (λ (n : Bor (List ℕ)). Missing)) (take_more names i d lt) ∙ map-append (λ (n : Bor (List ℕ)). Missing) (take i names) (get_or names i d ∷ []))
 
 pub count_more : (gots all : List Got) (g : Got) (i : ℕ) → all ≡ gots ++ g ∷ [] → length gots ≡ i → length all ≡ i + 1
 count_more gots all g i is count = rw is (simp length-append (omega arith))

@@ -24,7 +24,8 @@ pub cause_more : (removed all : List Cleared) (one : Cleared) (old mid new : ℕ
     → (any_left removed ≡ true → old < mid) → old ≤ mid → mid ≤ new → (one.ok ≡ false → mid < new)
     → any_left all ≡ true → old < new
 cause_more removed all one old mid new is before later latest here left =
-    let split : (any_left removed || any_left (one ∷ [])) ≡ true = sym (list_any-append (λ (c : Cleared). not c.ok) removed (one ∷ [])) ∙ sym (ap any_left is) ∙ left in
+    let split : (any_left removed || any_left (one ∷ [])) ≡ true =
+    sym (list_any-append (λ (c : Cleared). not c.ok) removed (one ∷ [])) ∙ sym (ap any_left is) ∙ left in
     cause_cases (any_left removed) one.ok old mid new before later latest here split
 
 pub calls_more : (removed all : List Cleared) (one : Cleared) (old mid new : Option (List StoreCall)) → all ≡ removed ++ one ∷ []
@@ -33,7 +34,10 @@ pub calls_more : (removed all : List Cleared) (one : Cleared) (old mid new : Opt
 calls_more removed all one None mid new is before here = here ∙ ap (with_calls (RemovedFile (string_bytes one.name) one.ok ∷ [])) before
 calls_more removed all one (Some calls) mid new is before here =
     here ∙ ap (with_calls (RemovedFile (string_bytes one.name) one.ok ∷ [])) before
-    ∙ ap Some (append_assoc calls (removal_calls removed) (removal_calls (one ∷ [])) ∙ ap (λ (more : List StoreCall). calls ++ more) (sym (map-append (λ (c : Cleared). RemovedFile (string_bytes c.name) c.ok) removed (one ∷ [])) ∙ sym (ap removal_calls is)))
+    ∙ ap Some
+    (append_assoc calls (removal_calls removed) (removal_calls (one ∷ []))
+    ∙ ap (λ (more : List StoreCall). calls ++ more)
+    (sym (map-append (λ (c : Cleared). RemovedFile (string_bytes c.name) c.ok) removed (one ∷ [])) ∙ sym (ap removal_calls is)))
 
 without-append : (removed : List Cleared) (one : Cleared) (files : List StoreFile)
     → without (removed ++ one ∷ []) files ≡ without_one one.ok (string_bytes one.name) (without removed files)
@@ -70,7 +74,8 @@ bytes_of_names : (removed : List Cleared) → map (λ (c : Cleared). string_byte
 bytes_of_names [] = refl
 bytes_of_names (c ∷ removed) = ap (λ (more : List (List ℕ)). string_bytes c.name ∷ more) (bytes_of_names removed)
 
-pub named_bytes : (removed : List Cleared) (names : List (String Global)) → names_of removed ≡ names → map (λ (c : Cleared). string_bytes c.name) removed ≡ map string_bytes names
+pub named_bytes : (removed : List Cleared) (names : List (String Global)) → names_of removed ≡ names
+    → map (λ (c : Cleared). string_bytes c.name) removed ≡ map string_bytes names
 named_bytes removed names is = bytes_of_names removed ∙ ap (map string_bytes) is
 
 pub names_told : (told : Option StoreTold) (removed : List Cleared) (names : List (String Global)) → names_of removed ≡ names
@@ -78,19 +83,23 @@ pub names_told : (told : Option StoreTold) (removed : List Cleared) (names : Lis
 names_told None removed names is listed = tt
 names_told (Some t) removed names is listed = bytes_of_names removed ∙ ap (map string_bytes) is ∙ listed
 
-pub calls_all : (removed : List Cleared) (names : List (String Global)) (done : Bool) (old listed cleared new : Option (List StoreCall)) → names_of removed ≡ names
-    → listed ≡ with_calls (listing_calls (map string_bytes names)) old → cleared ≡ with_calls (removal_calls removed) listed → new ≡ with_calls (SettledFiles done ∷ []) cleared
+pub calls_all : (removed : List Cleared) (names : List (String Global)) (done : Bool) (old listed cleared new : Option (List StoreCall))
+    → names_of removed ≡ names
+    → listed ≡ with_calls (listing_calls (map string_bytes names)) old → cleared ≡ with_calls (removal_calls removed) listed
+    → new ≡ with_calls (SettledFiles done ∷ []) cleared
     → new ≡ with_calls (listing_calls (map (λ c. string_bytes c.name) removed) ++ (removal_calls removed ++ SettledFiles done ∷ [])) old
 calls_all removed names done old listed cleared new is first second third =
     let listing = listing_calls (map (λ (c : Cleared). string_bytes c.name) removed) in
     let settling = SettledFiles done ∷ [] in
-    let named : listed ≡ with_calls listing old = first ∙ ap (λ (n : List (List ℕ)). with_calls (listing_calls n) old) (ap (map string_bytes) (sym is) ∙ sym (bytes_of_names removed)) in
+    let named : listed ≡ with_calls listing old =
+    first ∙ ap (λ (n : List (List ℕ)). with_calls (listing_calls n) old) (ap (map string_bytes) (sym is) ∙ sym (bytes_of_names removed)) in
     third ∙ ap (with_calls settling) (second ∙ ap (with_calls (removal_calls removed)) named ∙ with_calls-append listing (removal_calls removed) old)
     ∙ with_calls-append (listing ++ removal_calls removed) settling old
 
 taken_append : (failing : Option StoreFails) (removed : List Cleared) (one : Cleared) (old mid new : Option (List StoreFile))
     → TakesFiles failing removed old mid → TakesFile failing one.ok (string_bytes one.name) mid new → TakesFiles failing (removed ++ one ∷ []) old new
-taken_append failing [] one old mid new before here = (new, subst (λ (o : Option (List StoreFile)). TakesFile failing one.ok (string_bytes one.name) o new) before here, refl)
+taken_append failing [] one old mid new before here =
+    (new, subst (λ (o : Option (List StoreFile)). TakesFile failing one.ok (string_bytes one.name) o new) before here, refl)
 taken_append failing (c ∷ removed) one old mid new before here = (before.0, before.1, taken_append failing removed one before.0 mid new before.2 here)
 
 pub taken_more : (failing now : Option StoreFails) (removed all : List Cleared) (one : Cleared) (name : List ℕ) (old mid new : Option (List StoreFile))

@@ -25,7 +25,8 @@ pub record Stops (name bytes : List ℕ) (step : SaveStep) (call : Bool → Stor
   pub front : take made (save_calls name bytes) ≡ done
   pub short : made < 4
 
-pub stopped : {T : Type 0} (failing now : Option StoreFails) (name bytes : List ℕ) (step : SaveStep) (call : Bool → StoreCall) (done : List StoreCall) (old mid new : Option StoreTold)
+pub stopped : {T : Type 0} (failing now : Option StoreFails) (name bytes : List ℕ) (step : SaveStep) (call : Bool → StoreCall) (done : List StoreCall)
+    (old mid new : Option StoreTold)
     (result : Result T SaveFault) (fault : SaveFault) → result ≡ Err fault → Stops name bytes step call done → now ≡ failing → Answered failing done old mid
     → Steps {T = T} now step call mid new (Err fault) → Saves failing name bytes old new result
 stopped {T} failing now name bytes step call done old mid new result fault is stops same before here =
@@ -34,7 +35,8 @@ stopped {T} failing now name bytes step call done old mid new result fault is st
     by : (f : SaveFault) → Steps {T = T} now step call mid new (Err f) → Saves {T = T} failing name bytes old new (Err f)
     by (Failed failed) at =
         let calls : Answered failing (save_calls_to name bytes step) old new =
-        subst (λ (calls : List StoreCall). Answered failing calls old new) (sym stops.failed) (answered_more failing now done (call false ∷ []) old mid new same before at.1) in
+        subst (λ (calls : List StoreCall). Answered failing calls old new) (sym stops.failed)
+        (answered_more failing now done (call false ∷ []) old mid new same before at.1) in
         subst (λ (s : SaveStep). IsOfSaving s × Answered failing (save_calls_to name bytes s) old new) (sym at.0) (stops.of, calls)
     by NoMemory at =
         let some = subst (λ (m : Option StoreTold). Answered failing done old m) (sym at) before in
@@ -61,20 +63,24 @@ removal_more failing now removed all one name old mid new same called is before 
     subst (λ (calls : List StoreCall). Answered failing calls old new) (sym more)
     (answered_more failing now (removal_calls removed) (RemovedFile (string_bytes one.name) one.ok ∷ []) old mid new same before named)
 
-pub cleared_answered : (failing at_removals at_settling : Option StoreFails) (removed : List Cleared) (names : List (List ℕ)) (settled : Bool) (old listed cleared new : Option StoreTold)
-    → at_removals ≡ failing → at_settling ≡ failing → map (λ (c : Cleared). string_bytes c.name) removed ≡ names → Answered failing (listing_calls names) old listed
+pub cleared_answered : (failing at_removals at_settling : Option StoreFails) (removed : List Cleared) (names : List (List ℕ)) (settled : Bool)
+    (old listed cleared new : Option StoreTold)
+    → at_removals ≡ failing → at_settling ≡ failing → map (λ (c : Cleared). string_bytes c.name) removed ≡ names
+    → Answered failing (listing_calls names) old listed
     → Answered at_removals (removal_calls removed) listed cleared → Answered at_settling (SettledFiles settled ∷ []) cleared new
     → Answered failing (listing_calls (map (λ (c : Cleared). string_bytes c.name) removed) ++ (removal_calls removed ++ SettledFiles settled ∷ [])) old new
 cleared_answered failing at_removals at_settling removed names settled old listed cleared new first second is a b c =
     let from_listing = subst (λ (ns : List (List ℕ)). Answered failing (listing_calls ns) old listed) (sym is) a in
     let removals = subst (λ (f : Option StoreFails). Answered f (removal_calls removed) listed cleared) first b in
-    answered_more failing failing (listing_calls (map (λ (c : Cleared). string_bytes c.name) removed)) (removal_calls removed ++ SettledFiles settled ∷ []) old listed new refl from_listing
+    answered_more failing failing (listing_calls (map (λ (c : Cleared). string_bytes c.name) removed))
+    (removal_calls removed ++ SettledFiles settled ∷ []) old listed new refl from_listing
     (answered_more failing at_settling (removal_calls removed) (SettledFiles settled ∷ []) listed cleared new second removals c)
 
 -- ---- a clearing for which memory ran out
 
 -- no more was removed
-pub begins_none : (failing : Option StoreFails) (removed : List Cleared) (rest names : List (String Global)) (old mid new : Option StoreTold) → names_of removed ++ rest ≡ names
+pub begins_none : (failing : Option StoreFails) (removed : List Cleared) (rest names : List (String Global)) (old mid new : Option StoreTold)
+    → names_of removed ++ rest ≡ names
     → Answered failing (removal_calls removed) old mid → new ≡ mid → BeginsRemovals failing names old new
 begins_none failing removed rest names old mid new named before same = record {
   removed = removed;
@@ -84,8 +90,10 @@ begins_none failing removed rest names old mid new named before same = record {
 }
 
 -- one more was
-pub begins_more : (failing now : Option StoreFails) (removed : List Cleared) (one : Cleared) (name : List ℕ) (left rest names : List (String Global)) (old mid new : Option StoreTold)
-    → now ≡ failing → name ≡ string_bytes one.name → left ≡ one.name ∷ rest → names_of removed ++ left ≡ names → Answered failing (removal_calls removed) old mid
+pub begins_more : (failing now : Option StoreFails) (removed : List Cleared) (one : Cleared) (name : List ℕ) (left rest names : List (String Global))
+    (old mid new : Option StoreTold)
+    → now ≡ failing → name ≡ string_bytes one.name → left ≡ one.name ∷ rest → names_of removed ++ left ≡ names
+    → Answered failing (removal_calls removed) old mid
     → Answered now (RemovedFile name one.ok ∷ []) mid new → BeginsRemovals failing names old new
 begins_more failing now removed one name left rest names old mid new same called next named before here = record {
   removed = removed ++ one ∷ [];

@@ -28,7 +28,8 @@ is_unsettled (Some done) = not done
 
 -- Nor does a removal or the settling fail where the count didn't rise.
 abbrev pub HasClearingCause : ℕ → ℕ → Result Clearing SaveFault → Type 0
-HasClearingCause old new (Ok clearing) = (any_left clearing.removed.items || is_unsettled clearing.settled) ≡ true → old < new
+HasClearingCause old new (Ok clearing) =
+    (any_left clearing.removed.items || is_unsettled clearing.settled) ≡ true → old < new
 HasClearingCause old new (Err fault) = HasListingCause {T = Clearing} old new (Err fault)
 
 -- Where it is told which calls fail, the listing refuses exactly where its number is told.
@@ -73,7 +74,8 @@ cleared_calls clearing =
 -- A refusal is a failed listing, and left the files.
 abbrev pub TellsRefusal : {T : Type 0} → Option StoreTold → Option StoreTold → Result T SaveFault → Type 0
 TellsRefusal old new (Ok x) = Unit {0}
-TellsRefusal old new (Err (Failed call)) = (told_calls new ≡ with_calls (ListedAsides None ∷ []) (told_calls old)) × (told_files new ≡ told_files old)
+TellsRefusal old new (Err (Failed call)) =
+    (told_calls new ≡ with_calls (ListedAsides None ∷ []) (told_calls old)) × (told_files new ≡ told_files old)
 TellsRefusal old new (Err NoMemory) = Unit {0}
 
 -- ---- where memory ran out, or the listing failed
@@ -84,7 +86,8 @@ BeginsListing failing old new (Failed call) = Answered failing (ListedAsides Non
 BeginsListing failing old new NoMemory = new ≡ old
 
 -- some of these were removed, or tried, in their order
-pub record BeginsRemovals (failing : Option StoreFails) (names : List (String Global)) (old new : Option StoreTold) : Type 0 where
+pub record BeginsRemovals (failing : Option StoreFails) (names : List (String Global))
+    (old new : Option StoreTold) : Type 0 where
   pub removed : List Cleared
   pub rest : List (String Global)
   pub named : map (λ cleared. cleared.name) removed ++ rest ≡ names

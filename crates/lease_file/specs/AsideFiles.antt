@@ -24,4 +24,5 @@ TakesFile (Some fails) false name old new = new ≡ old
 abbrev pub TakesFiles : Option StoreFails → List Cleared → Option (List StoreFile) → Option (List StoreFile) → Type 0
 TakesFiles failing [] old new = new ≡ old
 TakesFiles failing (cleared ∷ rest) old new =
-    (mid : Option (List StoreFile)) × TakesFile failing cleared.ok (string_bytes cleared.name) old mid × TakesFiles failing rest mid new
+    (mid : Option (List StoreFile)) × TakesFile failing cleared.ok (string_bytes cleared.name) old mid
+    × TakesFiles failing rest mid new

@@ -38,7 +38,8 @@ IsReadingOf file got.Unread = Unit {0}
 abbrev pub TellsReading : List ℕ → Option StoreTold → Option StoreTold → Result Got NoMemory → Type 0
 TellsReading name None told_new result = told_new ≡ None
 TellsReading name (Some told) told_new (Ok g) =
-    IsReadingOf (file_at name told.files) g × (told_new ≡ Some (store_answered (ReadFile name (got_reading g)) told.files told))
+    IsReadingOf (file_at name told.files) g
+    × (told_new ≡ Some (store_answered (ReadFile name (got_reading g)) told.files told))
 TellsReading name (Some told) told_new (Err e) = told_new ≡ Some told
 
 abbrev pub is_unread : Got → Bool

@@ -32,9 +32,11 @@ IsOfSaving step.List = ⊥
 IsOfSaving step.Remove = ⊥
 
 -- All calls were made, or those up to the one that failed. Where memory ran out, some of the first were.
-abbrev pub Saves : {T : Type 0} → Option StoreFails → (name bytes : List ℕ) → Option StoreTold → Option StoreTold → Result T SaveFault → Type 0
+abbrev pub Saves : {T : Type 0} → Option StoreFails → (name bytes : List ℕ) → Option StoreTold → Option StoreTold
+    → Result T SaveFault → Type 0
 Saves failing name bytes old new (Ok x) = Answered failing (save_calls name bytes) old new
-Saves failing name bytes old new (Err (Failed failed)) = IsOfSaving failed × Answered failing (save_calls_to name bytes failed) old new
+Saves failing name bytes old new (Err (Failed failed)) =
+    IsOfSaving failed × Answered failing (save_calls_to name bytes failed) old new
 Saves failing name bytes old new (Err NoMemory) =
     (made : ℕ) × (made < length (save_calls name bytes)) × Answered failing (take made (save_calls name bytes)) old new
 
@@ -57,8 +59,10 @@ IsOfRemoving step.Sync = ⊥
 IsOfRemoving step.Rename = ⊥
 IsOfRemoving step.List = ⊥
 
-abbrev pub Removes : {T : Type 0} → Option StoreFails → (name : List ℕ) → Option StoreTold → Option StoreTold → Result T SaveFault → Type 0
+abbrev pub Removes : {T : Type 0} → Option StoreFails → (name : List ℕ) → Option StoreTold → Option StoreTold
+    → Result T SaveFault → Type 0
 Removes failing name old new (Ok x) = Answered failing (remove_calls name) old new
-Removes failing name old new (Err (Failed failed)) = IsOfRemoving failed × Answered failing (remove_calls_to name failed) old new
+Removes failing name old new (Err (Failed failed)) =
+    IsOfRemoving failed × Answered failing (remove_calls_to name failed) old new
 Removes failing name old new (Err NoMemory) =
     (made : ℕ) × (made < length (remove_calls name)) × Answered failing (take made (remove_calls name)) old new

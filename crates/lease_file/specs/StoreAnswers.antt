@@ -7,8 +7,10 @@ use Rattle.lease_file.specs.declared.faults.SaveStep.{SaveStep}
 use Rattle.lease_file.specs.declared.faults.SaveFault.{SaveFault}
 use Rattle.lease_file.specs.declared.faults.SaveFault.TheVariants.{Failed, NoMemory}
 
--- One call, which tells in its last argument whether it was done. The fault names it, and where memory ran out it wasn't made.
-abbrev pub Steps : {T : Type 0} → Option StoreFails → SaveStep → (Bool → StoreCall) → Option StoreTold → Option StoreTold → Result T SaveFault → Type 0
+-- One call, which tells in its last argument whether it was done. The fault names it, and where memory ran out it
+-- wasn't made.
+abbrev pub Steps : {T : Type 0} → Option StoreFails → SaveStep → (Bool → StoreCall) → Option StoreTold
+    → Option StoreTold → Result T SaveFault → Type 0
 Steps failing step call old new (Ok x) = Answered failing (call true ∷ []) old new
 Steps failing step call old new (Err (Failed failed)) = (failed ≡ step) × Answered failing (call false ∷ []) old new
 Steps failing step call old new (Err NoMemory) = new ≡ old

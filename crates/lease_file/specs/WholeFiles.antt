@@ -1,4 +1,5 @@
--- What a crash may leave of the files at each moment of a saving, a removal or a clearing, from every store and whatever fails.
+-- What a crash may leave of the files at each moment of a saving, a removal or a clearing, from every store and
+-- whatever fails.
 use Rattle.std.specs.Prelude.{ℕ, ◌≡◌, ◌⊎◌, true, false, List, take, Option, Some, None}
 use Rattle.std.specs.List.{AllByRecursion}
 use Rattle.std.specs.String.{string_bytes}
@@ -27,12 +28,15 @@ IsLeft name content told = (left : Option (List ℕ)) → MayLeave told name lef
 
 pub record KeepsWhole (name bytes : List ℕ) (before after : StoreTold) : Type 0 where
   pub file : StaysOrBecomes name (Some bytes) before after
-  pub others : (other : List ℕ) → is_name other name ≡ false → is_name other (aside_of name) ≡ false → Stays other before after
+  pub others : (other : List ℕ) → is_name other name ≡ false → is_name other (aside_of name) ≡ false
+      → Stays other before after
 
 -- after each of its calls, and after one that failed; once all are done there is the new file alone
 pub record SavesWhole (failing : Option StoreFails) (name bytes : List ℕ) (before after : StoreTold) : Type 0 where
-  pub within : (made : ℕ) → Goes failing (take made (save_calls name bytes)) before after → KeepsWhole name bytes before after
-  pub failed : (step : SaveStep) → Goes failing (save_calls_to name bytes step) before after → KeepsWhole name bytes before after
+  pub within : (made : ℕ) → Goes failing (take made (save_calls name bytes)) before after
+      → KeepsWhole name bytes before after
+  pub failed : (step : SaveStep) → Goes failing (save_calls_to name bytes step) before after
+      → KeepsWhole name bytes before after
   pub done : Goes failing (save_calls name bytes) before after → IsLeft name (Some bytes) after
 
 -- ---- removing
@@ -43,7 +47,8 @@ pub record KeepsOrRemoves (name : List ℕ) (before after : StoreTold) : Type 0 
 
 pub record RemovesWhole (failing : Option StoreFails) (name : List ℕ) (before after : StoreTold) : Type 0 where
   pub within : (made : ℕ) → Goes failing (take made (remove_calls name)) before after → KeepsOrRemoves name before after
-  pub failed : (step : SaveStep) → Goes failing (remove_calls_to name step) before after → KeepsOrRemoves name before after
+  pub failed : (step : SaveStep) → Goes failing (remove_calls_to name step) before after
+      → KeepsOrRemoves name before after
   pub done : Goes failing (remove_calls name) before after → IsLeft name None after
 
 -- ---- clearing and reading
@@ -59,10 +64,12 @@ IsOfAsides (SyncedAside name done) = ⊥
 IsOfAsides (RenamedAside name done) = ⊥
 
 abbrev pub KeepsFiles : Option StoreFails → StoreTold → StoreTold → Type 0
-KeepsFiles failing before after = (calls : List StoreCall) (name : List ℕ) → AllByRecursion IsOfAsides calls → Goes failing calls before after
+KeepsFiles failing before after =
+    (calls : List StoreCall) (name : List ℕ) → AllByRecursion IsOfAsides calls → Goes failing calls before after
     → is_aside name ≡ false → Stays name before after
 
 -- the calls of a clearing of asides are such
 abbrev pub ClearsAsides : Clearing → Type 0
-ClearsAsides clearing = AllByRecursion (λ (cleared : Cleared). is_aside (string_bytes cleared.name) ≡ true) clearing.removed.items
+ClearsAsides clearing =
+    AllByRecursion (λ (cleared : Cleared). is_aside (string_bytes cleared.name) ≡ true) clearing.removed.items
     → AllByRecursion IsOfAsides (cleared_calls clearing)

@@ -27,7 +27,8 @@ pub fn read_file<S: Store>(alloc: Global, store: &mut S, name: &str) -> Result<G
     ensures cause { HasReadCause (S.faults store.old) (S.faults store.new) result }
     ensures foretold { IsReadForetold (S.failing store.old) (store_number (S.told store.old)) result }
     ensures told { TellsReading name.now (S.told store.old) (S.told store.new) result }
-    ensures quiet { IsQuiet (S.failing store.old) (S.told store.old) → IfOk result (λ got. got ≡ Got.Missing) × IsQuiet (S.failing store.new) (S.told store.new) }
+    ensures quiet { IsQuiet (S.failing store.old) (S.told store.old)
+        → IfOk result (λ got. got ≡ Got.Missing) × IsQuiet (S.failing store.new) (S.told store.new) }
 {
     let mut bytes = Vec::new(alloc);
     match store.read_file(name, &mut bytes) {
@@ -49,8 +50,13 @@ pub fn read_files<S: Store>(
     ensures failing { S.failing store.new ≡ S.failing store.old }
     ensures cause { IfOk result (λ gots. any_unread gots.items ≡ true → S.faults store.old < S.faults store.new) }
     ensures count { IfOk result (λ gots. length gots.items ≡ length names.now) }
-    ensures quiet { IsQuiet (S.failing store.old) (S.told store.old) → IfOk result (λ gots. map got_reading gots.items ≡ map (λ _. Missing) names.now) × IsQuiet (S.failing store.new) (S.told store.new) }
-    ensures calls { IfOk result (λ gots. told_calls (S.told store.new) ≡ with_calls (reading_calls (map (λ name. name.now) names.now) gots.items) (told_calls (S.told store.old))) }
+    ensures quiet { IsQuiet (S.failing store.old) (S.told store.old)
+        → IfOk result (λ gots. map got_reading gots.items ≡ map (λ _. Missing) names.now)
+        × IsQuiet (S.failing store.new) (S.told store.new) }
+    ensures calls { IfOk result
+        (λ gots. told_calls (S.told store.new)
+        ≡ with_calls (reading_calls (map (λ name. name.now) names.now) gots.items)
+        (told_calls (S.told store.old))) }
     ensures files { told_files (S.told store.new) ≡ told_files (S.told store.old) }
 {
     let mut gots = Vec::new(alloc);

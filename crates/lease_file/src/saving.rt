@@ -15,7 +15,8 @@ fn write<S: Store>(store: &mut S, name: &str, bytes: &[u8]) -> Result<(), SaveFa
     ensures later { S.faults store.old ≤ S.faults store.new }
     ensures failing { S.failing store.new ≡ S.failing store.old }
     ensures cause { HasStepCause (S.faults store.old) (S.faults store.new) result }
-    ensures step { Steps (S.failing store.old) SaveStep.Write (WroteAside name.now bytes.now) (S.told store.old) (S.told store.new) result }
+    ensures step { Steps (S.failing store.old) SaveStep.Write (WroteAside name.now bytes.now) (S.told store.old)
+        (S.told store.new) result }
 {
     match store.write_aside(name, bytes) {
         Ok(()) => Ok(()),
@@ -29,7 +30,8 @@ fn sync<S: Store>(store: &mut S, name: &str) -> Result<(), SaveFault>
     ensures later { S.faults store.old ≤ S.faults store.new }
     ensures failing { S.failing store.new ≡ S.failing store.old }
     ensures cause { HasStepCause (S.faults store.old) (S.faults store.new) result }
-    ensures step { Steps (S.failing store.old) SaveStep.Sync (SyncedAside name.now) (S.told store.old) (S.told store.new) result }
+    ensures step { Steps (S.failing store.old) SaveStep.Sync (SyncedAside name.now) (S.told store.old)
+        (S.told store.new) result }
 {
     match store.sync_aside(name) {
         Ok(()) => Ok(()),
@@ -43,7 +45,8 @@ fn rename<S: Store>(store: &mut S, name: &str) -> Result<(), SaveFault>
     ensures later { S.faults store.old ≤ S.faults store.new }
     ensures failing { S.failing store.new ≡ S.failing store.old }
     ensures cause { HasStepCause (S.faults store.old) (S.faults store.new) result }
-    ensures step { Steps (S.failing store.old) SaveStep.Rename (RenamedAside name.now) (S.told store.old) (S.told store.new) result }
+    ensures step { Steps (S.failing store.old) SaveStep.Rename (RenamedAside name.now) (S.told store.old)
+        (S.told store.new) result }
 {
     match store.rename_aside(name) {
         Ok(()) => Ok(()),
@@ -57,7 +60,8 @@ fn take_away<S: Store>(store: &mut S, name: &str) -> Result<(), SaveFault>
     ensures later { S.faults store.old ≤ S.faults store.new }
     ensures failing { S.failing store.new ≡ S.failing store.old }
     ensures cause { HasStepCause (S.faults store.old) (S.faults store.new) result }
-    ensures step { Steps (S.failing store.old) SaveStep.Remove (RemovedFile name.now) (S.told store.old) (S.told store.new) result }
+    ensures step { Steps (S.failing store.old) SaveStep.Remove (RemovedFile name.now) (S.told store.old)
+        (S.told store.new) result }
 {
     match store.remove(name) {
         Ok(()) => Ok(()),
@@ -118,8 +122,8 @@ fn remove_steps<S: Store>(store: &mut S, name: &str) -> Result<(), SaveFault>
     Ok(())
 }
 
-/// Removes a file, where there is one, and settles that. The first call that isn't done ends it. At each moment, whatever it
-/// answers, a crash leaves of each file one of its choices since the entry.
+/// Removes a file, where there is one, and settles that. The first call that isn't done ends it. At each moment,
+/// whatever it answers, a crash leaves of each file one of its choices since the entry.
 pub fn remove<S: Store>(store: &mut S, name: &str) -> Result<(), SaveFault>
     requires { IsFileName name.now }
     ensures later { S.faults store.old ≤ S.faults store.new }

@@ -149,8 +149,8 @@ enum Input {
     Duplicate,
 }
 
-/// What the client does then: at the moment, with the message, its transaction id, how many items its first IA names and the
-/// news, and when it's due next.
+/// What the client does then: at the moment, with the message, its transaction id, how many items its first IA names
+/// and the news, and when it's due next.
 #[derive(Clone, Copy)]
 struct Row {
     at: u64,

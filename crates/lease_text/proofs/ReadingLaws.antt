@@ -77,8 +77,10 @@ record Takes (reading : Reading) (line : Line) (next : Reading) : Type 0 where
   pub follows : Follows reading line next
   pub free : Lacks 10 line
 
-word_takes : {X : Type 0} {field : Field X} (reading : Reading) (line : Line) (next : Reading) (word : List ℕ) (make : X → Reading) → Lacks 10 word → IsField field
-    → ((x : X) → field.Fits x → Follows reading (word ++ field.text x) (make x)) → option_map make (after_word word field.at line) ≡ Some next → Takes reading line next
+word_takes : {X : Type 0} {field : Field X} (reading : Reading) (line : Line) (next : Reading) (word : List ℕ) (make : X → Reading) → Lacks 10 word
+    → IsField field
+    → ((x : X) → field.Fits x → Follows reading (word ++ field.text x) (make x)) → option_map make (after_word word field.at line) ≡ Some next
+    → Takes reading line next
 word_takes {field = field} reading line next word make free is follows e =
     let m = mapped make (after_word word field.at line) next e in
     let worded = worded_is word free is in
@@ -97,7 +99,8 @@ at_line next name terms = record { next = next; name = name; terms = terms; valu
 term_told : {X : Type 0} {field : Field X} (term : TermLine) (name : Name) (terms : Terms4) (line : Line) (next : Reading) (word : List ℕ) (told : X → Terms4)
     → Lacks 10 word → IsField field
     → ((x : X) → field.Fits x → Follows (at_line (Term term) name terms) (word ++ field.text x) (at_line (after_term term) name (told x)))
-    → option_map (at_line (after_term term) name) (option_map told (after_word word field.at line)) ≡ Some next → Takes (at_line (Term term) name terms) line next
+    → option_map (at_line (after_term term) name) (option_map told (after_word word field.at line)) ≡ Some next
+    → Takes (at_line (Term term) name terms) line next
 term_told {field = field} term name terms line next word told free is follows e =
     word_takes (at_line (Term term) name terms) line next word (λ x. at_line (after_term term) name (told x)) free is follows
     (sym (maps_join told (at_line (after_term term) name) (after_word word field.at line)) ∙ e)
@@ -109,12 +112,22 @@ one_grant_line holder taken line = sym (append_assoc holder taken (line ∷ []))
 abbrev with_origin : Terms4 → Option Origin → Terms4
 with_origin terms origin = record terms { origin = origin }
 
-origin_fits : (name : Name) (terms : Terms4) (values : List ValueContent) (origin : Option Origin) → IfSome origin (λ o. IsMoment o.confirmed) → IfSome origin (λ o. FitsMac o.mac)
+origin_fits : (name : Name) (terms : Terms4) (values : List ValueContent) (origin : Option Origin) → IfSome origin (λ o. IsMoment o.confirmed)
+    → IfSome origin (λ o. FitsMac o.mac)
     → IsTerms name terms values → IsTerms name (with_origin terms origin) values
 origin_fits name terms values origin moment mac good =
     let t = good.fits.terms in
     with_terms name terms (with_origin terms origin) values good
-    (record { address = t.address; len = t.len; confirmed = moment; first = t.first; lease = t.lease; renews = t.renews; rebinds = t.rebinds; endless = t.endless })
+    (record {
+      address = t.address;
+      len = t.len;
+      confirmed = moment;
+      first = t.first;
+      lease = t.lease;
+      renews = t.renews;
+      rebinds = t.rebinds;
+      endless = t.endless;
+    })
     (record { origin = mac; server = good.typed.server; server_mac = good.typed.server_mac; time = good.typed.time })
 
 abbrev OriginTakes : TermLine → Name → Terms4 → Line → Reading → Option Origin → Type 0
@@ -141,7 +154,8 @@ confirmed_takes : (name : Name) (terms : Terms4) (line : Line) (next : Reading) 
 unfolding term_in
 confirmed_takes name terms line next None good some e = absurd (let never : false ≡ true = some in cc)
 confirmed_takes name terms line next (Some origin) good some e =
-    term_told Confirmed name (with_origin terms (Some origin)) line next confirmed_word (λ at. with_origin terms (Some (record origin { confirmed = at }))) refl moment_is
+    term_told Confirmed name (with_origin terms (Some origin)) line next confirmed_word
+    (λ at. with_origin terms (Some (record origin { confirmed = at }))) refl moment_is
     (λ at fits. record {
       lines = refl;
       sound = record {
@@ -163,7 +177,16 @@ term_takes Address name terms line next good some e =
       lines = one_grant_line (holder_lines (lease_with name terms [])) (take 0 (grant_lines (lease_with name terms []))) (address_word ++ net4_text net);
       sound = record {
         good = with_terms name terms (record terms { net = net }) [] good
-            (record { address = fits.host; len = fits.address.prefix; confirmed = t.confirmed; first = t.first; lease = t.lease; renews = t.renews; rebinds = t.rebinds; endless = t.endless })
+            (record {
+              address = fits.host;
+              len = fits.address.prefix;
+              confirmed = t.confirmed;
+              first = t.first;
+              lease = t.lease;
+              renews = t.renews;
+              rebinds = t.rebinds;
+              endless = t.endless;
+            })
             (record { origin = good.typed.origin; server = good.typed.server; server_mac = good.typed.server_mac; time = good.typed.time });
         values = refl;
         origin = tt;
@@ -176,7 +199,16 @@ term_takes Server name terms line next good some e =
       lines = one_grant_line (holder_lines (lease_with name terms [])) (take 1 (grant_lines (lease_with name terms []))) (server_word ++ ip4_text server);
       sound = record {
         good = with_terms name terms (record terms { server = server }) [] good
-            (record { address = t.address; len = t.len; confirmed = t.confirmed; first = t.first; lease = t.lease; renews = t.renews; rebinds = t.rebinds; endless = t.endless })
+            (record {
+              address = t.address;
+              len = t.len;
+              confirmed = t.confirmed;
+              first = t.first;
+              lease = t.lease;
+              renews = t.renews;
+              rebinds = t.rebinds;
+              endless = t.endless;
+            })
             (record { origin = good.typed.origin; server = fits; server_mac = good.typed.server_mac; time = good.typed.time });
         values = refl;
         origin = tt;
@@ -189,7 +221,16 @@ term_takes ServerMac name terms line next good some e =
       lines = one_grant_line (holder_lines (lease_with name terms [])) (take 2 (grant_lines (lease_with name terms []))) (server_mac_word ++ mac_text mac);
       sound = record {
         good = with_terms name terms (record terms { server_mac = mac }) [] good
-            (record { address = t.address; len = t.len; confirmed = t.confirmed; first = t.first; lease = t.lease; renews = t.renews; rebinds = t.rebinds; endless = t.endless })
+            (record {
+              address = t.address;
+              len = t.len;
+              confirmed = t.confirmed;
+              first = t.first;
+              lease = t.lease;
+              renews = t.renews;
+              rebinds = t.rebinds;
+              endless = t.endless;
+            })
             (record { origin = good.typed.origin; server = good.typed.server; server_mac = fits; time = good.typed.time });
         values = refl;
         origin = tt;
@@ -202,7 +243,16 @@ term_takes First name terms line next good some e =
       lines = one_grant_line (holder_lines (lease_with name terms [])) (take 3 (grant_lines (lease_with name terms []))) (first_word ++ decimal first);
       sound = record {
         good = with_terms name terms (record terms { first = first }) [] good
-            (record { address = t.address; len = t.len; confirmed = t.confirmed; first = fits; lease = t.lease; renews = t.renews; rebinds = t.rebinds; endless = t.endless })
+            (record {
+              address = t.address;
+              len = t.len;
+              confirmed = t.confirmed;
+              first = fits;
+              lease = t.lease;
+              renews = t.renews;
+              rebinds = t.rebinds;
+              endless = t.endless;
+            })
             (record { origin = good.typed.origin; server = good.typed.server; server_mac = good.typed.server_mac; time = good.typed.time });
         values = refl;
         origin = tt;
@@ -210,12 +260,22 @@ term_takes First name terms line next good some e =
     }) e
 term_takes LeaseTime name terms line next good some e =
     let t = good.fits.terms in
-    term_told LeaseTime name terms line next lease_word (λ lease. record terms { lease = lease; t1 = lease; t2 = lease }) refl (seconds_is 1 INFINITE_LEASE (omega arith))
+    term_told LeaseTime name terms line next lease_word (λ lease. record terms { lease = lease; t1 = lease; t2 = lease }) refl
+    (seconds_is 1 INFINITE_LEASE (omega arith))
     (λ lease fits. record {
       lines = one_grant_line (holder_lines (lease_with name terms [])) (take 4 (grant_lines (lease_with name terms []))) (lease_word ++ decimal lease);
       sound = record {
         good = with_terms name terms (record terms { lease = lease; t1 = lease; t2 = lease }) [] good
-            (record { address = t.address; len = t.len; confirmed = t.confirmed; first = t.first; lease = fits.0; renews = omega arith; rebinds = omega arith; endless = λ e. e })
+            (record {
+              address = t.address;
+              len = t.len;
+              confirmed = t.confirmed;
+              first = t.first;
+              lease = fits.0;
+              renews = omega arith;
+              rebinds = omega arith;
+              endless = λ e. e;
+            })
             (record { origin = good.typed.origin; server = good.typed.server; server_mac = good.typed.server_mac; time = fits.1 });
         values = refl;
         origin = tt;
@@ -224,12 +284,22 @@ term_takes LeaseTime name terms line next good some e =
 term_takes Renewal name terms line next good some e =
     let t = good.fits.terms in
     let below : terms.lease < 2 ^ 32 = let up = good.typed.time in omega arith in
-    term_told Renewal name terms line next renewal_word (λ t1. record terms { t1 = t1; t2 = terms.lease }) refl (seconds_is (least_renewal terms.lease) terms.lease below)
+    term_told Renewal name terms line next renewal_word (λ t1. record terms { t1 = t1; t2 = terms.lease }) refl
+    (seconds_is (least_renewal terms.lease) terms.lease below)
     (λ t1 fits. record {
       lines = one_grant_line (holder_lines (lease_with name terms [])) (take 5 (grant_lines (lease_with name terms []))) (renewal_word ++ decimal t1);
       sound = record {
         good = with_terms name terms (record terms { t1 = t1; t2 = terms.lease }) [] good
-            (record { address = t.address; len = t.len; confirmed = t.confirmed; first = t.first; lease = t.lease; renews = fits.1; rebinds = omega arith; endless = endless_least terms.lease t1 fits.0 fits.1 })
+            (record {
+              address = t.address;
+              len = t.len;
+              confirmed = t.confirmed;
+              first = t.first;
+              lease = t.lease;
+              renews = fits.1;
+              rebinds = omega arith;
+              endless = endless_least terms.lease t1 fits.0 fits.1;
+            })
             (record { origin = good.typed.origin; server = good.typed.server; server_mac = good.typed.server_mac; time = good.typed.time });
         values = refl;
         origin = tt;
@@ -240,10 +310,21 @@ term_takes Rebinding name terms line next good some e =
     let below : terms.lease < 2 ^ 32 = let up = good.typed.time in omega arith in
     term_told Rebinding name terms line next rebinding_word (λ t2. record terms { t2 = t2 }) refl (seconds_is terms.t1 terms.lease below)
     (λ t2 fits. record {
-      lines = append-nil (head_lines (lease_with name (record terms { t2 = t2 }) [])) ∙ one_grant_line (holder_lines (lease_with name terms [])) (take 6 (grant_lines (lease_with name terms []))) (rebinding_word ++ decimal t2);
+      lines =
+          append-nil (head_lines (lease_with name (record terms { t2 = t2 }) []))
+          ∙ one_grant_line (holder_lines (lease_with name terms [])) (take 6 (grant_lines (lease_with name terms []))) (rebinding_word ++ decimal t2);
       sound = record {
         good = with_terms name terms (record terms { t2 = t2 }) [] good
-            (record { address = t.address; len = t.len; confirmed = t.confirmed; first = t.first; lease = t.lease; renews = fits.0; rebinds = fits.1; endless = t.endless })
+            (record {
+              address = t.address;
+              len = t.len;
+              confirmed = t.confirmed;
+              first = t.first;
+              lease = t.lease;
+              renews = fits.0;
+              rebinds = fits.1;
+              endless = t.endless;
+            })
             (record { origin = good.typed.origin; server = good.typed.server; server_mac = good.typed.server_mac; time = good.typed.time });
         values = tt;
         origin = tt;
@@ -310,9 +391,11 @@ zeros : AreBytes (replicate 6 0)
 zeros = cons_bytes 0 (replicate 5 0) (omega arith) (cons_bytes 0 (replicate 4 0) (omega arith) (cons_bytes 0 (replicate 3 0) (omega arith)
     (cons_bytes 0 (replicate 2 0) (omega arith) (cons_bytes 0 (replicate 1 0) (omega arith) (cons_bytes 0 [] (omega arith) no_bytes)))))
 
-version_takes : (name : Name) (terms : Terms4) (values : List ValueContent) (line : Line) (origin : Option Origin) → IsTerms name terms values → HasValues Version values
+version_takes : (name : Name) (terms : Terms4) (values : List ValueContent) (line : Line) (origin : Option Origin) → IsTerms name terms values
+    → HasValues Version values
     → version_at line ≡ Some origin
-    → Takes (record { next = Version; name = name; terms = terms; values = values }) line (record { next = Interface; name = name; terms = with_origin terms origin; values = values })
+    → Takes (record { next = Version; name = name; terms = terms; values = values }) line
+    (record { next = Interface; name = name; terms = with_origin terms origin; values = values })
 unfolding version_at
 version_takes name terms values line origin good none is = by (after_word first_version end_at line) refl is
   where
@@ -333,19 +416,27 @@ version_takes name terms values line origin good none is = by (after_word first_
         word_takes reading line (named origin) second_version (λ _. named (Some untold_origin)) refl no_field_is
         (λ u fits. record {
           lines = refl;
-          sound = record { good = origin_fits name terms values (Some untold_origin) (omega arith) (record { six = refl; range = zeros }) good; values = none; origin = tt };
+          sound =
+              record {
+                good = origin_fits name terms values (Some untold_origin) (omega arith) (record { six = refl; range = zeros }) good;
+                values = none;
+                origin = tt;
+              };
         })
         (ap (option_map (λ _. named (Some untold_origin))) m.was ∙ ap (λ o. Some (named o)) m.gives)
 
 named_fits : {name new : Name} {terms : Terms4} {values : List ValueContent} → IsTerms name terms values → FitsName new → IsTerms new terms values
 named_fits good fits = record {
   fits = record { name = fits; terms = good.fits.terms; values = good.fits.values };
-  typed = record { origin = good.typed.origin; server = good.typed.server; server_mac = good.typed.server_mac; time = good.typed.time; values = good.typed.values };
+  typed =
+      record { origin = good.typed.origin; server = good.typed.server; server_mac = good.typed.server_mac; time = good.typed.time; values = good.typed.values };
 }
 
 interface_takes : (name : Name) (terms : Terms4) (values : List ValueContent) (line : Line) (after : Reading) (origin : Option Origin)
     → IsTerms name (with_origin terms origin) values → HasValues Interface values
-    → option_map (λ new. record { next = after_interface origin; name = new; terms = with_origin terms origin; values = values }) (after_word interface_word name_at line) ≡ Some after
+    → option_map (λ new. record { next = after_interface origin; name = new; terms = with_origin terms origin; values = values })
+    (after_word interface_word name_at line)
+    ≡ Some after
     → Takes (record { next = Interface; name = name; terms = with_origin terms origin; values = values }) line after
 interface_takes name terms values line after None good none e =
     word_takes (record { next = Interface; name = name; terms = with_origin terms None; values = values }) line after interface_word
@@ -374,7 +465,12 @@ takes (Term term) name terms values after line good none some e =
     (λ good e. term_takes term name terms line after good some e) good e
 takes Values name terms values after line good none some e =
     let reading : Reading = record { next = Values; name = name; terms = terms; values = values } in
-    elim (strip_word option_word line) as (λ o. strip_word option_word line ≡ o → by_word o (λ rest. option_map (with_value reading) (value_at (last_code values) rest)) (option_map (λ _. goes_to Nothing reading) (after_word end_line end_at line)) ≡ Some after → Takes reading line after) [
+    elim (strip_word option_word line) as
+    (λ o. strip_word option_word line ≡ o
+    → by_word o (λ rest. option_map (with_value reading) (value_at (last_code values) rest))
+    (option_map (λ _. goes_to Nothing reading) (after_word end_line end_at line))
+    ≡ Some after
+    → Takes reading line after) [
       | Some rest ↦ λ is q. subst (λ w. Takes reading w after) (sym (strip_sound option_word line rest is)) (value_takes name terms values rest after good q)
       | None ↦ λ is q.
           word_takes reading line after end_line (λ _. goes_to Nothing reading) refl no_field_is
@@ -458,7 +554,8 @@ ended Nothing name terms values lines lease before e = subst (λ l. SpellsLease4
 
 -- ---- a lease's lines are taken
 
-one_more : (reading next : Reading) (line : Line) (rest : List Line) (end : Option Reading) → step reading line ≡ Some next → run step rest next ≡ end → run step (line ∷ rest) reading ≡ end
+one_more : (reading next : Reading) (line : Line) (rest : List Line) (end : Option Reading) → step reading line ≡ Some next → run step rest next ≡ end
+    → run step (line ∷ rest) reading ≡ end
 one_more reading next line rest end e later = ap (option_and_then (run step rest)) e ∙ later
 
 word_step : {X : Type 0} {field : Field X} {A : Type 0} (word : List ℕ) (make : X → A) (x : X) → Lacks 10 word → IsField field
@@ -475,14 +572,20 @@ values_run : (name : Name) (terms : Terms4) (before values : List ValueContent) 
 unfolding step_at
 values_run name terms before [] rising good octets =
     let reading : Reading = record { next = Values; name = name; terms = terms; values = before } in
-    ap (λ o. option_and_then (run step []) (by_word o (λ rest. option_map (with_value reading) (value_at (last_code before) rest)) (option_map (λ _. goes_to Nothing reading) (after_word end_line end_at end_line))))
+    ap
+    (λ o. option_and_then (run step [])
+    (by_word o (λ rest. option_map (with_value reading) (value_at (last_code before) rest))
+    (option_map (λ _. goes_to Nothing reading) (after_word end_line end_at end_line))))
     (words_apart option_word end_line [] refl)
     ∙ ap (λ o. option_and_then (run step []) o) (word_step end_line (λ _. goes_to Nothing reading) tt refl no_field_is tt)
     ∙ ap (λ vs. Some (record { next = Nothing; name = name; terms = terms; values = vs })) (sym (append-nil before))
 values_run name terms before (value ∷ values) rising good octets =
     let reading : Reading = record { next = Values; name = name; terms = terms; values = before } in
     let rest = map option_line values ++ end_line ∷ [] in
-    ap (λ o. option_and_then (run step rest) (by_word o (λ rest. option_map (with_value reading) (value_at (last_code before) rest)) (option_map (λ _. goes_to Nothing reading) (after_word end_line end_at (option_line value)))))
+    ap
+    (λ o. option_and_then (run step rest)
+    (by_word o (λ rest. option_map (with_value reading) (value_at (last_code before) rest))
+    (option_map (λ _. goes_to Nothing reading) (after_word end_line end_at (option_line value)))))
     (strip_whole option_word (value_text value))
     ∙ ap (λ o. option_and_then (run step rest) (option_map (with_value reading) o))
     ((value_is (last_code before)).reads.whole value (fits_next (last_code before) value rising.0 good.0 octets.0))
@@ -525,14 +628,18 @@ grant_run lease old origin good =
     subst (λ terms. Runs lease (at_line Values lease.name terms) rest) (sym same)
     (values_run lease.name (terms_of lease) [] lease.values good.fits.values.rising good.fits.values.each good.typed.values) in
     term_step Address lease.name old net _ servers _
-    (word_step address_word (λ net. record old { net = net }) lease.net refl host_net_is (record { address = record { address = host_small lease.net.ip fits.address; prefix = fits.len }; host = fits.address }))
+    (word_step address_word (λ net. record old { net = net }) lease.net refl host_net_is
+    (record { address = record { address = host_small lease.net.ip fits.address; prefix = fits.len }; host = fits.address }))
     (term_step Server lease.name net server _ macs _ (word_step server_word (λ s. record net { server = s }) lease.server refl ip4_is good.typed.server)
-    (term_step ServerMac lease.name server mac _ moments _ (word_step server_mac_word (λ m. record server { server_mac = m }) lease.server_mac refl mac_is good.typed.server_mac)
+    (term_step ServerMac lease.name server mac _ moments _
+    (word_step server_mac_word (λ m. record server { server_mac = m }) lease.server_mac refl mac_is good.typed.server_mac)
     (term_step First lease.name mac first _ times _ (word_step first_word (λ f. record mac { first = f }) lease.first refl moment_is fits.first)
     (term_step LeaseTime lease.name first time _ renewals _
-    (word_step lease_word (λ l. record first { lease = l; t1 = l; t2 = l }) lease.lease refl (seconds_is 1 INFINITE_LEASE (omega arith)) (fits.lease, good.typed.time))
+    (word_step lease_word (λ l. record first { lease = l; t1 = l; t2 = l }) lease.lease refl (seconds_is 1 INFINITE_LEASE (omega arith))
+    (fits.lease, good.typed.time))
     (term_step Renewal lease.name time renewal _ last _
-    (word_step renewal_word (λ t. record time { t1 = t; t2 = lease.lease }) lease.t1 refl (seconds_is (least_renewal lease.lease) lease.lease below) (least, within))
+    (word_step renewal_word (λ t. record time { t1 = t; t2 = lease.lease }) lease.t1 refl (seconds_is (least_renewal lease.lease) lease.lease below)
+    (least, within))
     (term_step Rebinding lease.name renewal rebinding _ rest _
     (word_step rebinding_word (λ t. record renewal { t2 = t }) lease.t2 refl (seconds_is lease.t1 lease.lease below) (fits.renews, fits.rebinds)) later))))))
 
@@ -541,15 +648,18 @@ grant_run lease old origin good =
 first_read : version_at first_version ≡ Some None
 unfolding version_at
 first_read =
-    ap (λ o. by_version o (option_map (λ _. Some untold_origin) (after_word second_version end_at first_version))) ((worded_is first_version refl no_field_is).reads.whole tt tt)
+    ap (λ o. by_version o (option_map (λ _. Some untold_origin) (after_word second_version end_at first_version)))
+    ((worded_is first_version refl no_field_is).reads.whole tt tt)
 
 second_read : version_at second_version ≡ Some (Some untold_origin)
 unfolding version_at
 second_read =
-    ap (λ o. by_version (option_and_then end_at o) (option_map (λ _. Some untold_origin) (after_word second_version end_at second_version))) (words_apart first_version second_version [] refl)
+    ap (λ o. by_version (option_and_then end_at o) (option_map (λ _. Some untold_origin) (after_word second_version end_at second_version)))
+    (words_apart first_version second_version [] refl)
     ∙ word_step second_version (λ _. Some untold_origin) tt refl no_field_is tt
 
-holder_run : (lease : LeaseContent) (origin : Option Origin) → HasText (with_its lease origin) → Runs (with_its lease origin) start (lease4_lines (with_its lease origin))
+holder_run : (lease : LeaseContent) (origin : Option Origin) → HasText (with_its lease origin)
+    → Runs (with_its lease origin) start (lease4_lines (with_its lease origin))
 unfolding step_at term_in
 holder_run lease None good =
     let named : Reading = record start { next = Interface } in
@@ -572,7 +682,8 @@ holder_run lease (Some origin) good =
     (term_step OriginMac lease.name first of_mac _ confirmed _
     (word_step mac_word (λ mac. with_origin first_terms (Some (record untold_origin { mac = mac }))) origin.mac refl mac_is good.typed.origin)
     (term_step Confirmed lease.name of_mac told _ rest _
-    (word_step confirmed_word (λ at. with_origin first_terms (Some (record origin { confirmed = at }))) origin.confirmed refl moment_is good.fits.terms.confirmed)
+    (word_step confirmed_word
+    (λ at. with_origin first_terms (Some (record origin { confirmed = at }))) origin.confirmed refl moment_is good.fits.terms.confirmed)
     (grant_run (with_its lease (Some origin)) told refl good))))
 
 whole : (lease : LeaseContent) (lines : List Line) → SpellsLease4 lease lines → WholeRun step given start lines lease
@@ -589,7 +700,17 @@ unfolding is_name name_text
 start_good = record {
   fits = record {
     name = record { spelled = refl; within = omega arith; fifteen = refl; padded = refl };
-    terms = record { address = refl; len = omega arith; confirmed = tt; first = omega arith; lease = omega arith; renews = omega arith; rebinds = omega arith; endless = λ e. absurd (omega (arith, e)) };
+    terms =
+        record {
+          address = refl;
+          len = omega arith;
+          confirmed = tt;
+          first = omega arith;
+          lease = omega arith;
+          renews = omega arith;
+          rebinds = omega arith;
+          endless = λ e. absurd (omega (arith, e));
+        };
     values = record { each = tt; rising = tt };
   };
   typed = record { origin = tt; server = omega arith; server_mac = record { six = refl; range = zeros }; time = omega arith; values = tt };

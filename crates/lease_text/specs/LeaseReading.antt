@@ -24,7 +24,8 @@ use Rattle.lease_text.specs.Leases.{ValueContent, LeaseContent, lease_with, valu
 use Rattle.lease_text.specs.LeaseLines.{first_version, second_version, version_line, end_line, interface_word, mac_word, confirmed_word, address_word, server_word, server_mac_word, first_word, lease_word, renewal_word, rebinding_word, option_word, option_line, holder_lines, grant_lines, head_lines, lease4_lines}
 use Rattle.lease_text.specs.ValueForms.{is_kept, is_well_formed}
 
--- the line that comes next, and what those before it said; what no line said yet is anything that makes a lease which fits
+-- the line that comes next, and what those before it said; what no line said yet is anything that makes a lease which
+-- fits
 pub record Reading : Type 0 where
   pub next : LeaseLine
   pub name : Name
@@ -71,16 +72,22 @@ unfoldable pub term_in : TermLine → Terms4 → Line → Option Terms4
 term_in OriginMac terms line =
     option_map (λ mac. record terms { origin = with_mac terms.origin mac }) (after_word mac_word mac_at line)
 term_in Confirmed terms line =
-    option_map (λ at. record terms { origin = with_confirmed terms.origin at }) (after_word confirmed_word (number_at MOMENT_LIMIT) line)
+    option_map (λ at. record terms { origin = with_confirmed terms.origin at })
+    (after_word confirmed_word (number_at MOMENT_LIMIT) line)
 term_in Address terms line = option_map (λ net. record terms { net = net }) (after_word address_word host_net_at line)
 term_in Server terms line = option_map (λ server. record terms { server = server }) (after_word server_word ip4_at line)
-term_in ServerMac terms line = option_map (λ mac. record terms { server_mac = mac }) (after_word server_mac_word mac_at line)
-term_in First terms line = option_map (λ first. record terms { first = first }) (after_word first_word (number_at MOMENT_LIMIT) line)
+term_in ServerMac terms line =
+    option_map (λ mac. record terms { server_mac = mac }) (after_word server_mac_word mac_at line)
+term_in First terms line =
+    option_map (λ first. record terms { first = first }) (after_word first_word (number_at MOMENT_LIMIT) line)
 term_in LeaseTime terms line =
-    option_map (λ lease. record terms { lease = lease; t1 = lease; t2 = lease }) (after_word lease_word (seconds_at 1 INFINITE_LEASE) line)
+    option_map (λ lease. record terms { lease = lease; t1 = lease; t2 = lease })
+    (after_word lease_word (seconds_at 1 INFINITE_LEASE) line)
 term_in Renewal terms line =
-    option_map (λ t1. record terms { t1 = t1; t2 = terms.lease }) (after_word renewal_word (seconds_at (least_renewal terms.lease) terms.lease) line)
-term_in Rebinding terms line = option_map (λ t2. record terms { t2 = t2 }) (after_word rebinding_word (seconds_at terms.t1 terms.lease) line)
+    option_map (λ t1. record terms { t1 = t1; t2 = terms.lease })
+    (after_word renewal_word (seconds_at (least_renewal terms.lease) terms.lease) line)
+term_in Rebinding terms line =
+    option_map (λ t2. record terms { t2 = t2 }) (after_word rebinding_word (seconds_at terms.t1 terms.lease) line)
 
 -- the line after it
 abbrev pub after_term : TermLine → LeaseLine
@@ -102,11 +109,13 @@ last_code (value ∷ other ∷ values) = last_code (other ∷ values)
 -- a value that is kept and well formed, with a code above the one before it
 abbrev pub may_follow : (before : ℕ) → ValueContent → Bool
 may_follow before value =
-    nat_lt before value.code && is_kept value.code && nat_le (length value.bytes) VALUE_LIMIT && is_well_formed value.code value.bytes
+    nat_lt before value.code && is_kept value.code && nat_le (length value.bytes) VALUE_LIMIT
+    && is_well_formed value.code value.bytes
 
 unfoldable pub value_at : (before : ℕ) → List ℕ → Option ValueContent
 value_at before text =
-    guarded (may_follow before) (option_map (λ p. record { code = p.0; bytes = p.1 }) (pair_at 32 (number_at 256) hex_at text))
+    guarded (may_follow before)
+    (option_map (λ p. record { code = p.0; bytes = p.1 }) (pair_at 32 (number_at 256) hex_at text))
 
 -- ---- the lines one after another
 
@@ -123,7 +132,8 @@ by_version None second = second
 -- whether a version tells an origin
 unfoldable pub version_at : Line → Option (Option Origin)
 version_at line =
-    by_version (after_word first_version end_at line) (option_map (λ _. Some untold_origin) (after_word second_version end_at line))
+    by_version (after_word first_version end_at line)
+    (option_map (λ _. Some untold_origin) (after_word second_version end_at line))
 
 abbrev pub of_version : Option Origin → Reading → Reading
 of_version origin reading = record reading { next = Interface; terms = record reading.terms { origin = origin } }
@@ -136,11 +146,13 @@ after_interface (Some origin) = Term OriginMac
 unfoldable pub step_at : LeaseLine → Reading → Line → Option Reading
 step_at Version reading line = option_map (λ origin. of_version origin reading) (version_at line)
 step_at Interface reading line =
-    option_map (λ name. record reading { next = after_interface reading.terms.origin; name = name }) (after_word interface_word name_at line)
+    option_map (λ name. record reading { next = after_interface reading.terms.origin; name = name })
+    (after_word interface_word name_at line)
 step_at (Term term) reading line =
     option_map (λ terms. record reading { next = after_term term; terms = terms }) (term_in term reading.terms line)
 step_at Values reading line =
-    by_word (strip_word option_word line) (λ rest. option_map (with_value reading) (value_at (last_code reading.values) rest))
+    by_word (strip_word option_word line)
+    (λ rest. option_map (with_value reading) (value_at (last_code reading.values) rest))
     (option_map (λ _. goes_to Nothing reading) (after_word end_line end_at line))
 step_at Nothing reading line = None
 
@@ -171,7 +183,8 @@ first_terms = record {
 }
 
 abbrev pub start : Reading
-start = record { next = Version; name = record { bytes = 97 ∷ replicate 14 0; len = 1 }; terms = first_terms; values = [] }
+start =
+    record { next = Version; name = record { bytes = 97 ∷ replicate 14 0; len = 1 }; terms = first_terms; values = [] }
 
 -- ---- what was read
 

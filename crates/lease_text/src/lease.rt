@@ -41,7 +41,8 @@ pub struct Lease4 {
     /// The server that granted it (option 54), and the hardware address that the grant came from.
     pub server: Ip4,
     pub server_mac: Mac,
-    /// The moment of the first REQUEST of the exchange that granted it, in milliseconds since 1970. All times count from it.
+    /// The moment of the first REQUEST of the exchange that granted it, in milliseconds since 1970. All times count
+    /// from it.
     pub first: u64,
     /// How long it lasts, in seconds; `INFINITE_LEASE` is forever.
     pub lease: u32,
@@ -123,7 +124,8 @@ pub fn copied_values(alloc: Global, values: &[Value]) -> Result<Vec<Value>, Allo
     Ok(all)
 }
 
-/// Whether an address is one that a host may have: its first byte is 1 to 223 and isn't 127 (RFC 1122, section 3.2.1.3).
+/// Whether an address is one that a host may have: its first byte is 1 to 223 and isn't 127 (RFC 1122, section
+/// 3.2.1.3).
 pub fn is_host_address(address: Ip4) -> bool
     ensures { result ≡ is_host_address address }
 {

@@ -1,5 +1,5 @@
-//! Leases: what a server grants and a client keeps, and the bounds within which a lease has a text. The text has two versions;
-//! the second one tells where the lease comes from.
+//! Leases: what a server grants and a client keeps, and the bounds within which a lease has a text. The text has two
+//! versions; the second one tells where the lease comes from.
 //!
 //! The values of options are kept as they came, each checked once for the form that its code asks for.
 #![tactic(auto)]

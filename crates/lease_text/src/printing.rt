@@ -54,7 +54,8 @@ fn append_holder(lease: &Lease4, into: &mut Vec<u8>) -> Result<(), NoMemory>
 /// Appends the lines of what is leased, and by whom.
 #[tactic(auto, using(std::proofs::Common::append_assoc))]
 fn append_grant(lease: &Lease4, into: &mut Vec<u8>) -> Result<(), NoMemory>
-    ensures { OnOk result (into.new.items ≡ into.old.items ++ lines_text (take 3 (grant_lines (lease_content lease.now)))) }
+    ensures { OnOk result
+        (into.new.items ≡ into.old.items ++ lines_text (take 3 (grant_lines (lease_content lease.now)))) }
 {
     append_line(b"address ", &lease.net, into)?;
     append_line(b"server ", &lease.server, into)?;
@@ -65,7 +66,8 @@ fn append_grant(lease: &Lease4, into: &mut Vec<u8>) -> Result<(), NoMemory>
 /// Appends the lines of its times.
 #[tactic(auto, using(std::proofs::Common::append_assoc))]
 fn append_times(lease: &Lease4, into: &mut Vec<u8>) -> Result<(), NoMemory>
-    ensures { OnOk result (into.new.items ≡ into.old.items ++ lines_text (drop 3 (grant_lines (lease_content lease.now)))) }
+    ensures { OnOk result
+        (into.new.items ≡ into.old.items ++ lines_text (drop 3 (grant_lines (lease_content lease.now)))) }
 {
     append_line(b"first ", &lease.first, into)?;
     append_line(b"lease ", &lease.lease, into)?;

@@ -328,7 +328,8 @@ impl LeaseState {
     #[tactic(auto, unfolding(crate::specs::LeaseReading::step_at))]
     fn take_value(self, alloc: Global, line: &[u8]) -> Result<LeaseState, LineFault<BadText>>
         ensures taken { IfOk result (λ next. step_at LeaseLine.Values (reading_of self) line.now ≡ Some (reading_of next)) }
-        ensures bad { IfErr result (λ fault. Refuses (step_at LeaseLine.Values (reading_of self) line.now) (record {}) fault) }
+        ensures bad { IfErr result
+            (λ fault. Refuses (step_at LeaseLine.Values (reading_of self) line.now) (record {}) fault) }
     {
         match strip_word(line, b"option ") {
             Some(rest) => match value_of(alloc, last_code(&self.values), rest)? {
@@ -427,8 +428,8 @@ impl LineState for LeaseState {
 /// Why a text is no lease: its first bad line, or want of memory.
 pub type LeaseFault = TextFault<BadText>;
 
-/// The lease that the text spells, or its first bad line. Exactly the texts of leases within the bounds are read, in both
-/// versions.
+/// The lease that the text spells, or its first bad line. Exactly the texts of leases within the bounds are read, in
+/// both versions.
 pub fn read_lease4(alloc: Global, text: &[u8]) -> Result<Lease4, LeaseFault>
     ensures found { IfOk result (λ lease. IsSpelled SpellsLease4 text.now (lease_content lease)) }
     ensures bad { IfErr result (λ fault. FirstFault SpellsLease4 AnyCause text.now fault) }

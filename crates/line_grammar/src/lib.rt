@@ -1,4 +1,5 @@
-//! Lines of text as a word and its fields. Each kind of field has its text, its reader and its law, and so has a row of fields.
+//! Lines of text as a word and its fields. Each kind of field has its text, its reader and its law, and so has a row of
+//! fields.
 #![tactic(auto)]
 
 mod field;

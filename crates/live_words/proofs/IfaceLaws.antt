@@ -27,20 +27,23 @@ named_reads = pair_reads 61 name_reads mac_reads (λ name fits. name_lacks name 
 
 -- ---- all words
 
-specs_sound : (number : ℕ) (words : List (List ℕ)) (specs : List IfSpec) → specs_at number words ≡ Some specs → (words ≡ map iface_word specs) × CountsFrom number specs
+specs_sound : (number : ℕ) (words : List (List ℕ)) (specs : List IfSpec) → specs_at number words ≡ Some specs
+    → (words ≡ map iface_word specs) × CountsFrom number specs
 specs_sound number [] specs e = subst (λ s. ([] ≡ map iface_word s) × CountsFrom number s) (some_same e) (refl, tt)
 specs_sound number (word ∷ words) specs e =
     let first = passed (named_at word) _ specs e in
     let others = passed (specs_at (number + 1) words) _ specs first.gives in
     let one = named_reads.sound word first.value first.was in
     let rest = specs_sound (number + 1) words others.value others.was in
-    let spelled : word ∷ words ≡ map iface_word (spec_of number first.value ∷ others.value) = ap (λ w. w ∷ words) one.0 ∙ ap (λ ws. iface_word (spec_of number first.value) ∷ ws) rest.0 in
+    let spelled : word ∷ words ≡ map iface_word (spec_of number first.value ∷ others.value) =
+    ap (λ w. w ∷ words) one.0 ∙ ap (λ ws. iface_word (spec_of number first.value) ∷ ws) rest.0 in
     subst (λ s. (word ∷ words ≡ map iface_word s) × CountsFrom number s) (some_same others.gives) (spelled, (refl, one.1.0, one.1.1, rest.1))
 
 specs_whole : (number : ℕ) (specs : List IfSpec) → CountsFrom number specs → specs_at number (map iface_word specs) ≡ Some specs
 specs_whole number [] counts = refl
 specs_whole number (spec ∷ specs) counts =
-    let same : spec_of number (spec.name, spec.mac) ≡ spec = ap (λ n. record { index = record { number = n }; name = spec.name; mac = spec.mac }) (sym counts.0) in
+    let same : spec_of number (spec.name, spec.mac) ≡ spec =
+    ap (λ n. record { index = record { number = n }; name = spec.name; mac = spec.mac }) (sym counts.0) in
     step _ _ (spec.name, spec.mac) (named_reads.whole (spec.name, spec.mac) (counts.1, counts.2))
     ∙ step _ _ specs (specs_whole (number + 1) specs counts.3)
     ∙ ap (λ s. Some (s ∷ specs)) same
@@ -52,7 +55,8 @@ pub record AreInterfaces (words : List (List ℕ)) (specs : List IfSpec) : Type 
   pub some : 1 ≤ length specs
   pub fit : FitInterfaces specs
 
-pub ifaces_sound : (words : List (List ℕ)) (specs : List IfSpec) → 1 ≤ length words → length words ≤ 64 → ifaces_at words ≡ Some specs → AreInterfaces words specs
+pub ifaces_sound : (words : List (List ℕ)) (specs : List IfSpec) → 1 ≤ length words → length words ≤ 64 → ifaces_at words ≡ Some specs
+    → AreInterfaces words specs
 unfolding ifaces_at
 ifaces_sound words specs some few e =
     let passes = guard_passed all_unlike (specs_at 1 words) specs e in
@@ -75,11 +79,16 @@ unfolding is_name
 name_plain [] rest e = cc
 name_plain (byte ∷ bytes) rest e =
     elim (eqb byte 45) as (λ b. eqb byte 45 ≡ b → b ≡ false) [
-      | true ↦ λ t. absurd (true≢false (sym e ∙ ap (λ (b : ℕ). cond (is_ascii_alphanumeric b) (ltb (length (byte ∷ bytes)) 16 && list_all is_name_byte (byte ∷ bytes)) false) (eqb-true byte 45 t)))
+      | true ↦ λ t. absurd
+          (true≢false
+          (sym e
+          ∙ ap (λ (b : ℕ). cond (is_ascii_alphanumeric b) (ltb (length (byte ∷ bytes)) 16 && list_all is_name_byte (byte ∷ bytes)) false)
+          (eqb-true byte 45 t)))
       | false ↦ λ t. refl
     ] refl
 
 pub ifaces_plain : (number : ℕ) (specs : List IfSpec) → CountsFrom number specs → list_any is_option (map iface_word specs) ≡ false
 ifaces_plain number [] counts = refl
 ifaces_plain number (spec ∷ specs) counts =
-    or_from (is_option (iface_word spec)) _ (name_plain (name_text spec.name) (61 ∷ mac_text spec.mac) counts.1.spelled) (ifaces_plain (number + 1) specs counts.3)
+    or_from (is_option (iface_word spec)) _ (name_plain (name_text spec.name) (61 ∷ mac_text spec.mac) counts.1.spelled)
+    (ifaces_plain (number + 1) specs counts.3)

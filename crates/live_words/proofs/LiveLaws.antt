@@ -49,7 +49,8 @@ record SaysSaid (words : List (List ℕ)) (said : Said) : Type 0 where
 abbrev AsksSaid : List (List ℕ) → Said → Type 0
 AsksSaid words said = AsksLive words said.specs × SaysSaid words said
 
-said_sound : (words : List (List ℕ)) (places : Places) (said : Said) → is_live words ≡ true → list_any is_option words ≡ false → AtPlaces words places → said_at places ≡ Some said → AsksSaid words said
+said_sound : (words : List (List ℕ)) (places : Places) (said : Said) → is_live words ≡ true → list_any is_option words ≡ false → AtPlaces words places
+    → said_at places ≡ Some said → AsksSaid words said
 unfolding said_at
 said_sound words places said live plain has e =
     let one = passed (ports_at (port_at places.port) (port_at places.peer)) _ said e in
@@ -88,7 +89,8 @@ said_sound words places said live plain has e =
 live_sound : (words : List (List ℕ)) (said : Said) → live_at words ≡ Some said → AsksSaid words said
 unfolding live_at
 live_sound words said e =
-    elim (is_live words && not (list_any is_option words)) as (λ b. (is_live words && not (list_any is_option words)) ≡ b → cond b (option_and_then said_at (places_at words)) None ≡ Some said → AsksSaid words said) [
+    elim (is_live words && not (list_any is_option words)) as
+    (λ b. (is_live words && not (list_any is_option words)) ≡ b → cond b (option_and_then said_at (places_at words)) None ≡ Some said → AsksSaid words said) [
       | true ↦ λ t q.
           let fronts = and_parts (is_live words) _ t in
           let read = passed (places_at words) said_at said q in
@@ -139,7 +141,8 @@ module _ (words : List (List ℕ)) (specs : List IfSpec) (asks : AsksLive words 
 
 -- ---- what is read, by what the words ask
 
-pub live_read : (words : List (List ℕ)) (found : Option LiveWords) → option_map said_of found ≡ live_at words → IsLiveRead words (option_map (λ live. live.interfaces) found)
+pub live_read : (words : List (List ℕ)) (found : Option LiveWords) → option_map said_of found ≡ live_at words
+    → IsLiveRead words (option_map (λ live. live.interfaces) found)
 live_read words (Some live) e = (live_sound words (said_of live) (sym e)).0
 live_read words None e = λ specs asks. let both : None ≡ Some (whole words specs asks) = e ∙ live_whole words specs asks in cc
 

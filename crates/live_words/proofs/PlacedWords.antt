@@ -26,12 +26,17 @@ plain_parts (word ∷ words) plain = let parts = or_parts (is_option word) _ pla
 abbrev takes_by : Walk → Bool → Bool
 takes_by end passes =
     entered_passes app end.stopped
-    && (passes && (settle_passes rules false end.held && (list_all default_passes rules && is_valid top (finished rules end.held) (is_some (entered app end.stopped)))))
+    &&
+    (passes
+    &&
+    (settle_passes rules false end.held
+    && (list_all default_passes rules && is_valid top (finished rules end.held) (is_some (entered app end.stopped)))))
 
 takes_is : (work : Text) (words : List Text) → takes live_command (work ∷ words) ≡ takes_by (over words start) (walk_passes top [] start words)
 takes_is work words = refl
 
-pass_word : (from next : Walk) (word : Text) (words : List Text) → turn_passes top [] from word ≡ true → walked rules [] from word ≡ next → walk_passes top [] next words ≡ true
+pass_word : (from next : Walk) (word : Text) (words : List Text) → turn_passes top [] from word ≡ true → walked rules [] from word ≡ next
+    → walk_passes top [] next words ≡ true
     → walk_passes top [] from (word ∷ words) ≡ true
 unfolding walk_passes
 pass_word from next word words passes same rest = ap₂ (λ (b : Bool) (w : Walk). b && walk_passes top [] w words) passes same ∙ rest
@@ -43,22 +48,26 @@ all_pass : (words : List Text) → list_all (λ (word : Text). true) words ≡ t
 all_pass [] = refl
 all_pass (word ∷ words) = all_pass words
 
-pass_more : (port peer folder script word : Text) (words more : List Text) → ArePlain more → walk_passes top [] (at (held5 port peer folder script (word ∷ words)) positional 5) more ≡ true
+pass_more : (port peer folder script word : Text) (words more : List Text) → ArePlain more
+    → walk_passes top [] (at (held5 port peer folder script (word ∷ words)) positional 5) more ≡ true
 unfolding walk_passes
 pass_more port peer folder script word words [] plain = refl
 pass_more port peer folder script word words (next ∷ more) plain =
-    pass_word (at (held5 port peer folder script (word ∷ words)) positional 5) (at (held5 port peer folder script (word ∷ (words ++ next ∷ []))) positional 5) next more
+    pass_word (at (held5 port peer folder script (word ∷ words)) positional 5)
+    (at (held5 port peer folder script (word ∷ (words ++ next ∷ []))) positional 5) next more
     (word_passes (held5 port peer folder script (word ∷ words)) 5 next plain.0 positional tt)
     (walked6 port peer folder script (word ∷ words) next plain.0)
     (pass_more port peer folder script word (words ++ next ∷ []) more plain.1)
 
-module _ (port : Text) (is1 : is_option port ≡ false) (peer : Text) (is2 : is_option peer ≡ false) (folder : Text) (is3 : is_option folder ≡ false) (script : Text) (is4 : is_option script ≡ false) where
+module _ (port : Text) (is1 : is_option port ≡ false) (peer : Text) (is2 : is_option peer ≡ false) (folder : Text) (is3 : is_option folder ≡ false)
+    (script : Text) (is4 : is_option script ≡ false) where
   module _ (word : Text) (words : List Text) (are : ArePlain (word ∷ words)) where
     words_pass : is_some_text folder ≡ true → is_some_text script ≡ true → walk_passes top [] start (port ∷ peer ∷ folder ∷ script ∷ word ∷ words) ≡ true
     words_pass some_folder some_script =
         pass_word start (at (held1 port) idle 2) port _ (word_passes nothing_held 1 port is1 idle tt) (walked1 port is1)
         (pass_word (at (held1 port) idle 2) (at (held2 port peer) idle 3) peer _ (word_passes (held1 port) 2 peer is2 idle tt) (walked2 port peer is2)
-        (pass_word (at (held2 port peer) idle 3) (at (held3 port peer folder) idle 4) folder _ (word_passes (held2 port peer) 3 folder is3 idle tt) (walked3 port peer folder is3)
+        (pass_word (at (held2 port peer) idle 3) (at (held3 port peer folder) idle 4) folder _ (word_passes (held2 port peer) 3 folder is3 idle tt)
+        (walked3 port peer folder is3)
         (pass_word (at (held3 port peer folder) idle 4) (at (held4 port peer folder script) idle 5) script _
         (word_passes (held3 port peer folder) 4 script is4 idle tt ∙ ap (λ b. b && true) some_folder) (walked4 port peer folder script is4)
         (pass_word (at (held4 port peer folder script) idle 5) (at (held5 port peer folder script (word ∷ [])) positional 5) word words
@@ -134,7 +143,8 @@ few_of n none =
     let three = cond_none (ltb 64 n) kind.TooManyValues [] two.1 in
     le-leb n 64 (ltb-false 64 n three.0)
 
-module _ (port : Text) (is1 : is_option port ≡ false) (peer : Text) (is2 : is_option peer ≡ false) (folder : Text) (is3 : is_option folder ≡ false) (script : Text) (is4 : is_option script ≡ false) where
+module _ (port : Text) (is1 : is_option port ≡ false) (peer : Text) (is2 : is_option peer ≡ false) (folder : Text) (is3 : is_option folder ≡ false)
+    (script : Text) (is4 : is_option script ≡ false) where
   module _ (word : Text) (words : List Text) (are : ArePlain (word ∷ words)) where
     placed_fully : (work : Text) → fault_of live_command (work ∷ port ∷ peer ∷ folder ∷ script ∷ word ∷ words) ≡ []
         → are_places (record { port = port; peer = peer; folder = folder; script = script; interfaces = word ∷ words }) ≡ true
@@ -150,13 +160,18 @@ module _ (port : Text) (is1 : is_option port ≡ false) (peer : Text) (is2 : is_
         let after1 = rest_none start (at (held1 port) idle 2) port _ (walked1 port is1) one.0 in
         let after2 = rest_none (at (held1 port) idle 2) (at (held2 port peer) idle 3) peer _ (walked2 port peer is2) after1.1 in
         let after3 = rest_none (at (held2 port peer) idle 3) (at (held3 port peer folder) idle 4) folder _ (walked3 port peer folder is3) after2.1 in
-        let after4 = rest_none (at (held3 port peer folder) idle 4) (at (held4 port peer folder script) idle 5) script _ (walked4 port peer folder script is4) after3.1 in
-        let after5 = rest_none (at (held4 port peer folder script) idle 5) (at (held5 port peer folder script (word ∷ [])) positional 5) word words (walked5 port peer folder script word are.0) after4.1 in
+        let after4 =
+        rest_none (at (held3 port peer folder) idle 4) (at (held4 port peer folder script) idle 5) script _
+        (walked4 port peer folder script is4) after3.1 in
+        let after5 =
+        rest_none (at (held4 port peer folder script) idle 5) (at (held5 port peer folder script (word ∷ [])) positional 5) word words
+        (walked5 port peer folder script word are.0) after4.1 in
         let some_folder = folder_some port peer folder (sym (word_fault (held3 port peer folder) 4 script is4 idle tt) ∙ after4.0) in
         let some_script = script_some port peer folder script (sym (word_fault (held4 port peer folder script) 5 word are.0 idle tt) ∙ after5.0) in
         and_from _ _ (and_from _ _ some_folder some_script) (and_from _ _ (some_count (word ∷ words) (omega arith)) few)
 
-    found_at_places : (work : Text) (m : ArgMatches) → leb (length (word ∷ words)) 64 ≡ true → HasMatchesOf live_command (work ∷ port ∷ peer ∷ folder ∷ script ∷ word ∷ words) m
+    found_at_places : (work : Text) (m : ArgMatches) → leb (length (word ∷ words)) 64 ≡ true
+        → HasMatchesOf live_command (work ∷ port ∷ peer ∷ folder ∷ script ∷ word ∷ words) m
         → HasPlaces (found_of m) (record { port = port; peer = peer; folder = folder; script = script; interfaces = word ∷ words })
     found_at_places work m few has =
         let rows : rows_of (found_of m) ≡ row1 port ∷ row2 peer ∷ row3 folder ∷ row4 script ∷ row5 (word ∷ words) ∷ [] =
@@ -173,7 +188,8 @@ module _ (port : Text) (is1 : is_option port ≡ false) (peer : Text) (is2 : is_
 -- ---- all words
 
 -- what a parse that ends well found
-pub placed : (words : List Text) (m : ArgMatches) → list_any is_option words ≡ false → HasMatchesOf live_command words m → fault_of live_command words ≡ [] → ArePlaced (Some m) (places_at words)
+pub placed : (words : List Text) (m : ArgMatches) → list_any is_option words ≡ false → HasMatchesOf live_command words m → fault_of live_command words ≡ []
+    → ArePlaced (Some m) (places_at words)
 unfolding places_at
 placed [] m plain has none = absurd (too_few start _ refl none)
 placed (work ∷ []) m plain has none = absurd (too_few start _ refl none)
@@ -210,7 +226,9 @@ unplaced (work ∷ []) plain refused = tt
 unplaced (work ∷ a ∷ []) plain refused = tt
 unplaced (work ∷ a ∷ b ∷ []) plain refused = tt
 unplaced (work ∷ a ∷ b ∷ c ∷ []) plain refused = tt
-unplaced (work ∷ a ∷ b ∷ c ∷ d ∷ []) plain refused = unplaced_by (record { port = a; peer = b; folder = c; script = d; interfaces = [] }) (λ e. let no : false ≡ true = (and_parts _ _ e).1 in true≢false (sym no))
+unplaced (work ∷ a ∷ b ∷ c ∷ d ∷ []) plain refused =
+    unplaced_by (record { port = a; peer = b; folder = c; script = d; interfaces = [] })
+    (λ e. let no : false ≡ true = (and_parts _ _ e).1 in true≢false (sym no))
 unplaced (work ∷ a ∷ b ∷ c ∷ d ∷ word ∷ words) plain refused =
     let is = (plain_parts (work ∷ a ∷ b ∷ c ∷ d ∷ word ∷ words) plain).1 in
     unplaced_by (record { port = a; peer = b; folder = c; script = d; interfaces = word ∷ words })

@@ -32,10 +32,12 @@ with_options words some =
     let is : list_any is_option all ≡ true = sym (any_held words) ∙ some in
     sym (ap (λ b. read_where all (is_live all && not b)) is ∙ ap (read_where all) (and_false (is_live all)))
 
-pub held_plain : (words : List (String Global)) → list_any (λ word. is_option (string_bytes word)) words ≡ false → list_any is_option (map string_bytes words) ≡ false
+pub held_plain : (words : List (String Global)) → list_any (λ word. is_option (string_bytes word)) words ≡ false
+    → list_any is_option (map string_bytes words) ≡ false
 held_plain words none = sym (any_held words) ∙ none
 
-pub plain_said : {E : Type 0} (words : List (String Global)) (result : Result (Option LiveWords) E) → is_live (map string_bytes words) ≡ true → list_any (λ word. is_option (string_bytes word)) words ≡ false
+pub plain_said : {E : Type 0} (words : List (String Global)) (result : Result (Option LiveWords) E) → is_live (map string_bytes words) ≡ true
+    → list_any (λ word. is_option (string_bytes word)) words ≡ false
     → IfOk result (λ found. option_map said_of found ≡ option_and_then said_at (places_at (map string_bytes words)))
     → IfOk result (λ found. option_map said_of found ≡ live_at (map string_bytes words))
 unfolding live_at

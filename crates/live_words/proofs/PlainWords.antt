@@ -53,7 +53,8 @@ module _ (held : Held) (position : ℕ) (word : Text) (plain : is_option word �
 
   met : (waiting : Waiting) → IsFree waiting → word_met rules [] false waiting position word held ≡ (held, value)
   met idle free = ap₂ (met_as idle) (no_end word plain) (no_long word plain) ∙ ap (λ short. short_or_plain rules idle word short held) (no_short word plain)
-  met positional free = ap₂ (met_as positional) (no_end word plain) (no_long word plain) ∙ ap (λ short. short_or_plain rules positional word short held) (no_short word plain)
+  met positional free =
+      ap₂ (met_as positional) (no_end word plain) (no_long word plain) ∙ ap (λ short. short_or_plain rules positional word short held) (no_short word plain)
   met (option id) free = absurd free
 
   fine : other_passes top None word held ≡ true
@@ -66,7 +67,8 @@ module _ (held : Held) (position : ℕ) (word : Text) (plain : is_option word �
       ap₂ (λ is_end long. cond is_end [] (flag_word_fault rules false long word held)) (no_end word plain) (no_long word plain)
       ∙ ap (λ short. option_map_or (λ flags. bundle_fault rules false flags held) short []) (no_short word plain)
 
-  word_walked : (waiting : Waiting) → IsFree waiting → walked rules [] (at held waiting position) word ≡ to_positional rules (arg_by_index rules position) word (at held waiting position) held
+  word_walked : (waiting : Waiting) → IsFree waiting
+      → walked rules [] (at held waiting position) word ≡ to_positional rules (arg_by_index rules position) word (at held waiting position) held
   unfolding walked
   word_walked waiting free = ap (λ (m : Held × Step). after_step rules word (at held waiting position) m.0 m.1) (met waiting free)
 
@@ -130,7 +132,8 @@ walked2 port peer plain = word_walked (held1 port) 2 peer plain idle tt
 pub walked3 : (port peer folder : Text) → is_option folder ≡ false → walked rules [] (at (held2 port peer) idle 3) folder ≡ at (held3 port peer folder) idle 4
 walked3 port peer folder plain = word_walked (held2 port peer) 3 folder plain idle tt
 
-pub walked4 : (port peer folder script : Text) → is_option script ≡ false → walked rules [] (at (held3 port peer folder) idle 4) script ≡ at (held4 port peer folder script) idle 5
+pub walked4 : (port peer folder script : Text) → is_option script ≡ false
+    → walked rules [] (at (held3 port peer folder) idle 4) script ≡ at (held4 port peer folder script) idle 5
 walked4 port peer folder script plain = word_walked (held3 port peer folder) 4 script plain idle tt
 
 pub walked5 : (port peer folder script word : Text) → is_option word ≡ false
@@ -177,4 +180,6 @@ module _ (port : Text) (is1 : is_option port ≡ false) where
 
         module _ (word : Text) (words : List Text) (are : ArePlain (word ∷ words)) where
           pub end5 : over (port ∷ peer ∷ folder ∷ script ∷ word ∷ words) start ≡ at (held5 port peer folder script (word ∷ words)) positional 5
-          end5 = ap (over (word ∷ words)) end4 ∙ ap (over words) (walked5 port peer folder script word are.0) ∙ walked_more port peer folder script (word ∷ []) words are.1
+          end5 =
+              ap (over (word ∷ words)) end4 ∙ ap (over words) (walked5 port peer folder script word are.0)
+              ∙ walked_more port peer folder script (word ∷ []) words are.1

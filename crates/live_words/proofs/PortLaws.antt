@@ -48,9 +48,11 @@ ports_sound own other ports e = of_read (port_at own) (port_at other) refl refl 
     of_read (Some port) None one two e = cc
     of_read None p one two e = cc
 
-pub ports_whole : (port peer : ℕ) → IsPort port → IsPort peer → port ≢ peer → ports_at (port_at (decimal port)) (port_at (decimal peer)) ≡ Some (record { own = port; peer = peer })
+pub ports_whole : (port peer : ℕ) → IsPort port → IsPort peer → port ≢ peer
+    → ports_at (port_at (decimal port)) (port_at (decimal peer)) ≡ Some (record { own = port; peer = peer })
 ports_whole port peer port_is peer_is other =
-    rw (port_reads.whole port port_is, port_reads.whole peer peer_is) (ap (λ b. cond b None (Some (record { own = port; peer = peer }))) (not_equal port peer other))
+    rw (port_reads.whole port port_is, port_reads.whole peer peer_is)
+    (ap (λ b. cond b None (Some (record { own = port; peer = peer }))) (not_equal port peer other))
 
 -- ---- paths
 

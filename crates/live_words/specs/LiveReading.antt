@@ -68,7 +68,8 @@ are_places places =
 
 unfoldable pub places_at : List (List ℕ) → Option Places
 places_at (work ∷ port ∷ peer ∷ folder ∷ script ∷ interfaces) =
-    guarded are_places (Some (record { port = port; peer = peer; folder = folder; script = script; interfaces = interfaces }))
+    guarded are_places
+    (Some (record { port = port; peer = peer; folder = folder; script = script; interfaces = interfaces }))
 places_at words = None
 
 -- ---- what they say
@@ -80,7 +81,8 @@ pub record Said : Type 0 where
   pub specs : List IfSpec
 
 abbrev pub said_of : LiveWords → Said
-said_of live = record { ports = live.ports; folder = live.folder.now; script = live.script.now; specs = live.interfaces }
+said_of live =
+    record { ports = live.ports; folder = live.folder.now; script = live.script.now; specs = live.interfaces }
 
 unfoldable pub said_at : Places → Option Said
 said_at places = do

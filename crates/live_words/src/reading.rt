@@ -86,7 +86,8 @@ fn said_by<'a>(matches: &ArgMatches<'a>) -> Option<LiveWords<'a>>
 /// What words without options say.
 fn plain_said<'a>(alloc: Global, words: &'a [String]) -> Result<Option<LiveWords<'a>>, NoMemory>
     requires { list_any is_option (map string_bytes words.now) ≡ false }
-    ensures { IfOk result (λ found. option_map said_of found ≡ option_and_then said_at (places_at (map string_bytes words.entry.now))) }
+    ensures { IfOk result
+        (λ found. option_map said_of found ≡ option_and_then said_at (places_at (map string_bytes words.entry.now))) }
 {
     match matches_of(alloc, words)? {
         Some(matches) => Ok(said_by(&matches)),
@@ -108,13 +109,14 @@ fn live_of<'a>(alloc: Global, words: &'a [String]) -> Result<Option<LiveWords<'a
     plain_said(alloc, words)
 }
 
-/// What `live PORT PEER DIR SCRIPT IFACE..` says, or none where the words aren't of this form: a port of its own and one
-/// of its peer, both from 1 and unlike; a folder and a script, neither empty nor beginning with `-`; and 1 to 64 interfaces
-/// as `NAME=ADDRESS`, with unlike names and hardware addresses, numbered from 1 in their order. `words` are all that follow
-/// the program's name. Only words that begin with `live` want memory.
+/// What `live PORT PEER DIR SCRIPT IFACE..` says, or none where the words aren't of this form: a port of its own and
+/// one of its peer, both from 1 and unlike; a folder and a script, neither empty nor beginning with `-`; and 1 to 64
+/// interfaces as `NAME=ADDRESS`, with unlike names and hardware addresses, numbered from 1 in their order. `words` are
+/// all that follow the program's name. Only words that begin with `live` want memory.
 #[tactic(auto, using(crate::proofs::LiveLaws::live_read, crate::proofs::LiveLaws::live_says))]
 pub fn read_live<'a>(alloc: Global, words: &'a [String]) -> Result<Option<LiveWords<'a>>, NoMemory>
-    ensures read { IfOk result (λ found. IsLiveRead (map string_bytes words.entry.now) (option_map (λ live. live.interfaces) found)) }
+    ensures read { IfOk result
+        (λ found. IsLiveRead (map string_bytes words.entry.now) (option_map (λ live. live.interfaces) found)) }
     ensures says { IfOk result (λ found. IfSome found (λ live. SaysLive (map string_bytes words.entry.now) live)) }
     ensures wants { IfErr result (λ _. BeginsLive (map string_bytes words.entry.now)) }
 {

@@ -85,7 +85,8 @@ module _ (at salt : ℕ) (early : at < 10 ^ 15) (c : ClientContent) (has : HasHo
 pub heard_steps : (salt : ℕ) (arrival : Arrival) (c : ClientContent) → arrival.at < 10 ^ 15 → HasHosts c
     → IsSoundStep (kept_terms c) c.state (heard_step salt arrival c)
 heard_steps salt arrival c early has =
-    heard_sound (kept_terms c) (turn_of arrival.at salt c) (answer_to arrival c) c.state early has.state (answer_fits c.settings arrival c.state early has.state)
+    heard_sound (kept_terms c) (turn_of arrival.at salt c) (answer_to arrival c) c.state early has.state
+    (answer_fits c.settings arrival c.state early has.state)
 
 pub brought_hosts : (arrival : Arrival) (c : ClientContent) → HasHosts c → HasHosts (brought arrival c)
 brought_hosts arrival c has = record { state = has.state; kept = has.kept; held = has.held }

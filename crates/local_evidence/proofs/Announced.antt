@@ -61,7 +61,8 @@ targets mac a b e =
 pub one_address : (mac : Mac) (a b : Ip4) → FitsIp4 a → FitsIp4 b → announcement_text mac a ≡ announcement_text mac b → a ≡ b
 one_address mac a b a_fits b_fits e =
     let number : a.number ≡ b.number =
-    sym (from_be_bytes-to_be_bytes_4 a.number a_fits) ∙ ap (from_be_bytes w32) (targets mac a b (endings mac a b e)) ∙ from_be_bytes-to_be_bytes_4 b.number b_fits in
+    sym (from_be_bytes-to_be_bytes_4 a.number a_fits) ∙ ap (from_be_bytes w32) (targets mac a b (endings mac a b e))
+    ∙ from_be_bytes-to_be_bytes_4 b.number b_fits in
     ap (λ n. record { number = n }) number
 
 -- ---- what announces nothing

@@ -13,7 +13,8 @@ module _ (C First : TurnWord) (site : Site) (addr : Ip4) where
   once e = cond (probe_taken site addr (offers_at site e)) 1 0
 
   one_more : (e : Entry) (past : List Entry) → probes_taken site addr (e ∷ past) ≡ once e + probes_taken site addr past
-  one_more e past = let h : probes_taken site addr ((e ∷ []) ++ past) ≡ (0 + once e) + probes_taken site addr past = sum_by-append once (e ∷ []) past in omega arith
+  one_more e past =
+      let h : probes_taken site addr ((e ∷ []) ++ past) ≡ (0 + once e) + probes_taken site addr past = sum_by-append once (e ∷ []) past in omega arith
 
   later_on : (n : ℕ) (e : Entry) (past : List Entry) → n ≤ probes_taken site addr past → n ≤ probes_taken site addr (e ∷ past)
   later_on n e past h = let more = one_more e past in omega arith
@@ -41,6 +42,8 @@ needs_three site addr past few basis =
     let p = basis.probed in
     let least : 3 ≤ probes_taken site basis.addr past =
     subst (λ turns. 3 ≤ probes_taken site basis.addr turns) (sym p.cut)
-    (counted_on (StaysOn site) Anything site basis.addr 3 p.later p.fourth p.earlier (counted (StaysOn site) Anything site basis.addr 3 2000 p.fourth.moment p.earlier p.probes)) in
+    (counted_on (StaysOn site) Anything site basis.addr 3 p.later p.fourth p.earlier
+    (counted (StaysOn site) Anything site basis.addr 3 2000 p.fourth.moment p.earlier p.probes))
+    in
     let least_here : 3 ≤ probes_taken site addr past = subst (λ a. 3 ≤ probes_taken site a past) (sym same) least in
     omega arith

@@ -144,7 +144,9 @@ module _ (C : TurnWord) (site : Site) (addr : Ip4) where
   amid_more clean e said more past (Probing n due) none m = (
     m.0,
     λ rest h k stays calm.
-        m.1 (more ++ rest) (subst (λ (all : List Said). Offered site.managed.spec (ask_of site.duid site.managed) clean all (offers_at site e)) (append_assoc said more rest) h)
+        m.1 (more ++ rest)
+        (subst (λ (all : List Said). Offered site.managed.spec (ask_of site.duid site.managed) clean all (offers_at site e))
+        (append_assoc said more rest) h)
         k stays calm,
   )
   amid_more clean e said more past (Announcing due last) none m = (all_join _ said more m.0 (only_so more none), m.1)

@@ -132,7 +132,9 @@ module _ (C : TurnWord) (site : Site) (clean : Type 0) (e : Entry) (past : List 
       (choice_in_range iface conflicts salt, (lit≤ tt, λ k. tt)) tt
 
   abbrev AfterInput : List Said → LlStep → Type 0
-  AfterInput said step = Offered site.managed.spec (ask_of site.duid site.managed) clean (said ++ map Arp (option_to_list step.out.arp)) (offers_at site e) → Bears C site clean step.ll.state (e ∷ past)
+  AfterInput said step =
+      Offered site.managed.spec (ask_of site.duid site.managed) clean (said ++ map Arp (option_to_list step.out.arp)) (offers_at site e)
+      → Bears C site clean step.ll.state (e ∷ past)
 
   -- a packet that uses the held address
   used_bears : (iface i : IfIndex) (conflicts : ℕ) (addr : Ip4) (phase : Phase) (said : List Said) (last : Option ℕ) (defended : Phase)
@@ -141,7 +143,12 @@ module _ (C : TurnWord) (site : Site) (clean : Type 0) (e : Entry) (past : List 
       → AfterInput said (said_row iface conflicts (detection.contested_row (mk i addr phase) last e.moment defended).acd e.moment salt
       (detection.contested_row (mk i addr phase) last e.moment defended).says)
   used_bears iface i conflicts addr phase said None defended r m stays f =
-      λ h. (r, f (used C site addr None e past m.1 stays (is_alone C site addr clean e (said ++ Arp (Announce addr) ∷ []) r (all_join _ said _ m.0 (refl, tt)) h) tt))
+      λ h. (
+        r,
+        f
+            (used C site addr None e past m.1 stays
+            (is_alone C site addr clean e (said ++ Arp (Announce addr) ∷ []) r (all_join _ said _ m.0 (refl, tt)) h) tt),
+      )
   used_bears iface i conflicts addr phase said (Some last) defended r m stays f =
       split (nat_le 10000 (e.moment - last))
       (λ late. rw late (λ h. (
@@ -156,7 +163,8 @@ module _ (C : TurnWord) (site : Site) (clean : Type 0) (e : Entry) (past : List 
 
   held_hears : (addr : Ip4) (said : List Said) (last : Option ℕ) (arp : ArpView) → IsChoice addr
       → Amid C site addr clean e said past (Held last) → C e past → arp_on (index_at site) e.event e.bytes ≡ Some arp
-      → is_used site.own addr arp ≡ false → Offered site.managed.spec (ask_of site.duid site.managed) clean (said ++ []) (offers_at site e) → HeldSince C site addr last (e ∷ past)
+      → is_used site.own addr arp ≡ false → Offered site.managed.spec (ask_of site.duid site.managed) clean (said ++ []) (offers_at site e)
+      → HeldSince C site addr last (e ∷ past)
   held_hears addr said last arp r m stays heard none h =
       unused C site addr last e past m.1 stays (is_alone C site addr clean e (said ++ []) r (all_join _ said [] m.0 tt) h)
       (ap (tells_use site.own addr) heard ∙ none)

@@ -24,12 +24,13 @@ IsAlone site addr e = AllByRecursion (AnnouncesNoOther site addr) (offers_at sit
 abbrev pub UsesApart : Site → Ip4 → List Entry → Type 0
 UsesApart site addr [] = Unit {0}
 UsesApart site addr (e ∷ past) =
-    (uses site addr e ≡ true → AllByRecursion (λ before. uses site addr before ≡ true → before.moment + 10000 ≤ e.moment) past)
+    (uses site addr e ≡ true
+    → AllByRecursion (λ before. uses site addr before ≡ true → before.moment + 10000 ≤ e.moment) past)
     × UsesApart site addr past
 
--- The address is one that a host may choose by itself. It was probed, the turn of the first probe as `First` says and each
--- turn after it as C says. From the fourth turn on no other address was announced, and no two uses by other hosts came close
--- to each other.
+-- The address is one that a host may choose by itself. It was probed, the turn of the first probe as `First` says and
+-- each turn after it as C says. From the fourth turn on no other address was announced, and no two uses by other hosts
+-- came close to each other.
 pub record LocalChoice (C First : TurnWord) (site : Site) (net : Net) (past : List Entry) : Type 0 where
   pub addr : Ip4
   pub gives : net ≡ V4 (local_net addr)
@@ -60,7 +61,8 @@ NeedsThreeProbes = (site : Site) (addr : Ip4) (past : List Entry) → probes_tak
 
 -- An address below 169.254.1.0 or above 169.254.254.255 has none.
 abbrev pub NeedsItsRange : Type 0
-NeedsItsRange = (site : Site) (addr : Ip4) (past : List Entry) → (addr.number < 0xa9fe_0100) ⊎ (0xa9fe_feff < addr.number)
+NeedsItsRange =
+    (site : Site) (addr : Ip4) (past : List Entry) → (addr.number < 0xa9fe_0100) ⊎ (0xa9fe_feff < addr.number)
     → LinkLocalBasis site (V4 (local_net addr)) past → ⊥
 
 -- in the turn a frame announces this address (RFC 5227, section 2.3)
@@ -71,5 +73,7 @@ pub record Announces (site : Site) (addr : Ip4) (e : Entry) : Type 0 where
 
 -- Where another address is announced in the newest turn, this one has none.
 abbrev pub EndsByAnother : Type 0
-EndsByAnother = (site : Site) (addr other : Ip4) (e : Entry) (past : List Entry) → FitsIp4 other → other ≢ addr → Announces site other e
+EndsByAnother =
+    (site : Site) (addr other : Ip4) (e : Entry) (past : List Entry) → FitsIp4 other → other ≢ addr
+    → Announces site other e
     → LinkLocalBasis site (V4 (local_net addr)) (e ∷ past) → ⊥

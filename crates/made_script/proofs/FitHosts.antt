@@ -23,8 +23,12 @@ counted : (first n : ℕ) → first + n ≤ 256 → CountsFrom first (map iface_
 counted first zero small = tt
 counted first (suc n) small =
     let here : first < 256 = omega arith in
-    let on : suc first ≡ first + 1 = omega arith in
-    (refl, own_fits first here, own_mac_fits first here, subst (λ (m : ℕ). CountsFrom m (map iface_of (numbers_from (suc first) n))) on (counted (suc first) n (omega arith)))
+    let on : suc first ≡ first + 1 = omega arith in (
+      refl,
+      own_fits first here,
+      own_mac_fits first here,
+      subst (λ (m : ℕ). CountsFrom m (map iface_of (numbers_from (suc first) n))) on (counted (suc first) n (omega arith)),
+    )
 
 last_byte : Mac → ℕ
 last_byte mac = get_or mac.bytes 5 0
@@ -41,7 +45,8 @@ pairs_unlike first zero small = pairs_none Unlike
 pairs_unlike first (suc n) small =
     let later = map iface_of (numbers_from (suc first) n) in
     AllPairs-cons Unlike (iface_of first) later
-    (All-from_recursion (Unlike (iface_of first)) later (mapped_all (Unlike (iface_of first)) iface_of (suc first) n (λ j from below. unlike first j (omega arith) (omega arith))))
+    (All-from_recursion (Unlike (iface_of first)) later
+    (mapped_all (Unlike (iface_of first)) iface_of (suc first) n (λ j from below. unlike first j (omega arith) (omega arith))))
     (pairs_unlike (suc first) n (omega arith))
 
 pub ifaces_fit : FitInterfaces made_ifaces

@@ -61,7 +61,8 @@ reply_octets to small =
 reply_short : (to : ReplyTo) → length (server_frame (reply_to to)) ≤ 2048
 unfolding server_frame
 reply_short to =
-    let whole : length (server_frame (reply_to to)) ≡ 42 + length (reply_text (reply_to to)) = frame_len (ends_of (reply_to to)) SERVER_PORT CLIENT_PORT (reply_text (reply_to to)) refl refl in
+    let whole : length (server_frame (reply_to to)) ≡ 42 + length (reply_text (reply_to to)) =
+    frame_len (ends_of (reply_to to)) SERVER_PORT CLIENT_PORT (reply_text (reply_to to)) refl refl in
     let most = reply_most (reply_to to) refl in
     omega (arith, whole, most)
 

@@ -60,7 +60,8 @@ framed : (ends : Ends4) (from_port to_port : ℕ) (payload : List ℕ) → Octet
     → Octets (udp4_frame_text ends from_port to_port payload)
 unfolding udp4_frame_text udp4_text
 framed ends from_port to_port payload to_octets from_octets octets =
-    both (both (both to_octets from_octets) (word ip4_kind)) (both (head ends.from ends.to _ _) (datagram (pseudo4 ends.from ends.to (8 + length payload)) from_port to_port payload octets))
+    both (both (both to_octets from_octets) (word ip4_kind))
+    (both (head ends.from ends.to _ _) (datagram (pseudo4 ends.from ends.to (8 + length payload)) from_port to_port payload octets))
 
 -- ---- a server's message
 
@@ -95,13 +96,16 @@ fields : (reply : Reply) → Octets reply.chaddr.bytes → Octets (reply_fields 
 fields reply chaddr =
     let begin = these (2 ∷ 1 ∷ 6 ∷ 0 ∷ []) (omega arith, (omega arith, (omega arith, (omega arith, tt)))) in
     let cookie = these (0x63 ∷ 0x82 ∷ 0x53 ∷ 0x63 ∷ []) (omega arith, (omega arith, (omega arith, (omega arith, tt)))) in
-    both (both (both (both (both (both (both begin (number reply.xid)) (zeros 8)) (address (given_by reply.kind reply.yiaddr))) (zeros 8)) chaddr) (zeros 202)) cookie
+    both
+    (both (both (both (both (both (both begin (number reply.xid)) (zeros 8)) (address (given_by reply.kind reply.yiaddr))) (zeros 8)) chaddr) (zeros 202))
+    cookie
 
 message : (reply : Reply) → Octets reply.chaddr.bytes → Octets (reply_text reply)
 message reply chaddr = both (both (fields reply chaddr) (options (reply_options reply) (options_small reply))) (these (255 ∷ []) (omega arith, tt))
 
 -- the frame of a server's message
-pub reply_bytes : (ends : Ends4) (from_port to_port : ℕ) (reply : Reply) → AreBytes ends.to_mac.bytes → AreBytes ends.from_mac.bytes → AreBytes reply.chaddr.bytes
+pub reply_bytes : (ends : Ends4) (from_port to_port : ℕ) (reply : Reply) → AreBytes ends.to_mac.bytes → AreBytes ends.from_mac.bytes
+    → AreBytes reply.chaddr.bytes
     → AreBytes (udp4_frame_text ends from_port to_port (reply_text reply))
 reply_bytes ends from_port to_port reply to_octets from_octets chaddr =
     (framed ends from_port to_port (reply_text reply) (record { are = to_octets }) (record { are = from_octets }) (message reply (record { are = chaddr }))).are

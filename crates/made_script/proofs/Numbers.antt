@@ -19,7 +19,8 @@ numbers_step index some =
     ap (numbers_from 1) on ∙ numbers_more 1 (index - 1) ∙ ap (λ (m : ℕ). numbers_from 1 (index - 1) ++ m ∷ []) here
 
 -- one more element of a map
-pub more_mapped : {X : Type 0} (f : ℕ → X) (front now : List X) (x : X) (index : ℕ) → 1 ≤ index → now ≡ front ++ map f (numbers_from 1 (index - 1)) → x ≡ f index
+pub more_mapped : {X : Type 0} (f : ℕ → X) (front now : List X) (x : X) (index : ℕ) → 1 ≤ index → now ≡ front ++ map f (numbers_from 1 (index - 1))
+    → x ≡ f index
     → now ++ x ∷ [] ≡ front ++ map f (numbers_from 1 ((index + 1) - 1))
 more_mapped {X} f front now x index some so_far is =
     ap (λ (xs : List X). xs ++ x ∷ []) so_far
@@ -39,7 +40,8 @@ more_joined {X} g front now index some so_far =
 
 -- ---- what holds of all
 
-pub mapped_all : {X : Type 0} (P : X → Type 0) (f : ℕ → X) (first n : ℕ) → ((i : ℕ) → first ≤ i → i < first + n → P (f i)) → AllByRecursion P (map f (numbers_from first n))
+pub mapped_all : {X : Type 0} (P : X → Type 0) (f : ℕ → X) (first n : ℕ) → ((i : ℕ) → first ≤ i → i < first + n → P (f i))
+    → AllByRecursion P (map f (numbers_from first n))
 mapped_all P f first zero each = tt
 mapped_all P f first (suc n) each =
     (each first (omega arith) (omega arith), mapped_all P f (suc first) n (λ i from below. each i (omega arith) (omega arith)))

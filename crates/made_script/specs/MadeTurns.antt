@@ -15,7 +15,8 @@ quiet_given at = record { wake = record { at = at; salt = SALT; event = Quiet };
 
 -- the message to an interface
 abbrev pub wave_turn : Wave → ℕ → Given
-wave_turn wave index = reply_given (wave.after + index) (record { index = index; kind = wave.kind; xid = index + wave.ahead })
+wave_turn wave index =
+    reply_given (wave.after + index) (record { index = index; kind = wave.kind; xid = index + wave.ahead })
 
 -- a message to each interface, a millisecond after the one before
 unfoldable pub wave_given : Wave → List Given
@@ -29,4 +30,5 @@ abbrev pub round_given : (round : ℕ) → List Given
 round_given round = quiet_given (ROUND * round) ∷ wave_given (renewals round)
 
 abbrev pub made_turns : (rounds : ℕ) → List Given
-made_turns rounds = quiet_given FIRST_TURN ∷ (wave_given OFFERS ++ wave_given ACKS ++ flat_map round_given (numbers_from 1 rounds))
+made_turns rounds =
+    quiet_given FIRST_TURN ∷ (wave_given OFFERS ++ wave_given ACKS ++ flat_map round_given (numbers_from 1 rounds))

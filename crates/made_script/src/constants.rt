@@ -8,8 +8,8 @@ use crate::script::BEGIN;
 use crate::turns::{ACKS, FIRST_TURN, OFFERS, ROUND};
 use server_data::{ReplyKind, SERVER, SERVER_MAC};
 
-/// Law: what is measured. 64 interfaces with carrier from the moment 0 on; offers from 101 ms and ACKs from 201 ms on, leases of
-/// an hour from 10.0.0.1, renewed each 1,800,200 ms.
+/// Law: what is measured. 64 interfaces with carrier from the moment 0 on; offers from 101 ms and ACKs from 201 ms on,
+/// leases of an hour from 10.0.0.1, renewed each 1,800,200 ms.
 pub fn measures_are_these()
     ensures interfaces { INTERFACES ≡ 64 }
     ensures mac_front { MAC_FRONT ≡ 2 ∷ 0 ∷ 0 ∷ 0 ∷ 1 ∷ [] }

@@ -81,8 +81,8 @@ fn push_wave(turns: &mut Vec<TurnLine>, alloc: Global, wave: Wave) -> Result<(),
     Ok(())
 }
 
-/// The turns of a renewal. A client never draws the transaction number of its last exchange again: where the random words
-/// are 0, odd rounds have the number of the interface and one more, and even ones that number.
+/// The turns of a renewal. A client never draws the transaction number of its last exchange again: where the random
+/// words are 0, odd rounds have the number of the interface and one more, and even ones that number.
 fn push_round(turns: &mut Vec<TurnLine>, alloc: Global, round: u64) -> Result<(), NoMemory>
     requires { round ≤ MOST_ROUNDS }
     ensures { OnOk result (map given_of turns.new.items ≡ map given_of turns.old.items ++ round_given round) }

@@ -113,14 +113,19 @@ abbrev FitsSix : Six → Type 0
 FitsSix p = (p.0 < 256) × ((p.1.0 < 256) × ((p.1.1.0 < 256) × ((p.1.1.1.0 < 256) × ((p.1.1.1.1.0 < 256) × (p.1.1.1.1.1 < 256)))))
 
 abbrev six_text : Six → List ℕ
-six_text p = byte_hex p.0 ++ 58 ∷ (byte_hex p.1.0 ++ 58 ∷ (byte_hex p.1.1.0 ++ 58 ∷ (byte_hex p.1.1.1.0 ++ 58 ∷ (byte_hex p.1.1.1.1.0 ++ 58 ∷ byte_hex p.1.1.1.1.1))))
+six_text p =
+    byte_hex p.0 ++ 58 ∷ (byte_hex p.1.0 ++ 58 ∷ (byte_hex p.1.1.0 ++ 58 ∷ (byte_hex p.1.1.1.0 ++ 58 ∷ (byte_hex p.1.1.1.1.0 ++ 58 ∷ byte_hex p.1.1.1.1.1))))
 
 no_colon : (b : ℕ) → b < 256 → Lacks 58 (byte_hex b)
 no_colon b small = byte_lacks b 58 small refl
 
 six_reads : Reads six_text FitsSix six_at
 unfolding six_at
-six_reads = pair_reads 58 hex_byte_reads (pair_reads 58 hex_byte_reads (pair_reads 58 hex_byte_reads (pair_reads 58 hex_byte_reads (pair_reads 58 hex_byte_reads hex_byte_reads no_colon) no_colon) no_colon) no_colon) no_colon
+six_reads =
+    pair_reads 58 hex_byte_reads
+    (pair_reads 58 hex_byte_reads
+    (pair_reads 58 hex_byte_reads (pair_reads 58 hex_byte_reads (pair_reads 58 hex_byte_reads hex_byte_reads no_colon) no_colon) no_colon) no_colon)
+    no_colon
 
 abbrev mac_make : Six → Mac
 mac_make p = record { bytes = p.0 ∷ p.1.0 ∷ p.1.1.0 ∷ p.1.1.1.0 ∷ p.1.1.1.1.0 ∷ p.1.1.1.1.1 ∷ [] }
@@ -132,7 +137,8 @@ mac_steps : (text : List ℕ) → mac_at text ≡ option_map mac_make (six_at te
 unfolding mac_at six_at
 mac_steps text = simp steps_assoc
 
-six_cells : (bytes : List ℕ) → length bytes ≡ 6 → get_or bytes 0 0 ∷ get_or bytes 1 0 ∷ get_or bytes 2 0 ∷ get_or bytes 3 0 ∷ get_or bytes 4 0 ∷ get_or bytes 5 0 ∷ [] ≡ bytes
+six_cells : (bytes : List ℕ) → length bytes ≡ 6
+    → get_or bytes 0 0 ∷ get_or bytes 1 0 ∷ get_or bytes 2 0 ∷ get_or bytes 3 0 ∷ get_or bytes 4 0 ∷ get_or bytes 5 0 ∷ [] ≡ bytes
 six_cells (a ∷ b ∷ c ∷ d ∷ e ∷ f ∷ []) six = refl
 six_cells [] six = absurd (omega arith)
 six_cells (a ∷ []) six = absurd (omega arith)

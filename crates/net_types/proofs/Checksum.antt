@@ -78,7 +78,8 @@ sum_halves (a ∷ b ∷ rest) low ys odd hx small hy =
     ∙ ap (λ s. ones_add s (ones_sum ys)) (add_assoc_ones (256 * a + b) (ones_sum rest) low w (sum_small rest others) (omega arith))
 
 -- one word more
-pub word_more : (xs : List ℕ) (k : ℕ) → k % 2 ≡ 0 → suc k < length xs → plain_sum (take (suc (suc k)) xs) ≡ plain_sum (take k xs) + (256 * get_or xs k 0 + get_or xs (suc k) 0)
+pub word_more : (xs : List ℕ) (k : ℕ) → k % 2 ≡ 0 → suc k < length xs
+    → plain_sum (take (suc (suc k)) xs) ≡ plain_sum (take k xs) + (256 * get_or xs k 0 + get_or xs (suc k) 0)
 word_more [] k even lt = absurd (omega arith)
 word_more (a ∷ []) k even lt = absurd (omega arith)
 word_more (a ∷ b ∷ rest) zero even lt = omega arith
@@ -95,7 +96,8 @@ half_more (a ∷ b ∷ rest) (suc zero) even e = absurd (omega arith)
 half_more (a ∷ b ∷ rest) (suc (suc k)) even e = omega (arith, half_more rest k (omega arith) (omega arith))
 
 -- the next word is the number at the front of what is left
-pub word_after : (xs : List ℕ) (i : ℕ) → 2 * i + 1 < length xs → plain_sum (take (2 * (i + 1)) xs) ≡ plain_sum (take (2 * i) xs) + big_number 2 (drop (2 * i) xs)
+pub word_after : (xs : List ℕ) (i : ℕ) → 2 * i + 1 < length xs
+    → plain_sum (take (2 * (i + 1)) xs) ≡ plain_sum (take (2 * i) xs) + big_number 2 (drop (2 * i) xs)
 word_after xs i lt =
     let next : 2 * (i + 1) ≡ suc (suc (2 * i)) = omega arith in
     let high = get_or-drop (2 * i) xs 0 0 in
@@ -105,7 +107,8 @@ word_after xs i lt =
     let more = word_more xs (2 * i) (omega arith) (omega arith) in
     rw next (omega (arith, high, low, first, second, more))
 
-pub last_half : (xs : List ℕ) (i : ℕ) → length xs % 2 ≡ 1 → length xs / 2 ≤ i → i ≤ length xs / 2 → plain_sum xs ≡ plain_sum (take (2 * i) xs) + 256 * get_or xs (length xs - 1) 0
+pub last_half : (xs : List ℕ) (i : ℕ) → length xs % 2 ≡ 1 → length xs / 2 ≤ i → i ≤ length xs / 2
+    → plain_sum xs ≡ plain_sum (take (2 * i) xs) + 256 * get_or xs (length xs - 1) 0
 last_half xs i odd least most =
     let last : length xs - 1 ≡ 2 * i = omega arith in
     rw last (half_more xs (2 * i) (omega arith) (omega arith))
@@ -130,7 +133,8 @@ block_more rest total all h small long so_far =
     let even : length (take 65536 rest) % 2 ≡ 0 = omega (arith, length-take 65536 rest) in
     let cut : ones_sum rest ≡ ones_add (ones_sum (take 65536 rest)) (ones_sum (drop 65536 rest)) =
     ap ones_sum (sym (take-append-drop 65536 rest)) ∙ sum_words (take 65536 rest) (drop 65536 rest) even block after in
-    so_far ∙ ap (λ s. ones_add total s) cut ∙ add_assoc_ones total (ones_sum (take 65536 rest)) (ones_sum (drop 65536 rest)) small (sum_small _ block) (sum_small _ after)
+    so_far ∙ ap (λ s. ones_add total s) cut
+    ∙ add_assoc_ones total (ones_sum (take 65536 rest)) (ones_sum (drop 65536 rest)) small (sum_small _ block) (sum_small _ after)
 
 pub fit_bytes : (xs : List ℕ) → ((i : ℕ) → Fits w8 (get_or xs i 0)) → AreBytes xs
 fit_bytes xs h i = search (rules, h i)

@@ -5,13 +5,15 @@ use Rattle.std.proofs.lemmas.Iterator.Adapters.{position_from-zero}
 use Rattle.memchr.specs.Find.{IsFirstByte}
 
 -- where the first byte has the place i
-first_from : (test : ℕ → Bool) (bytes : List ℕ) (i : ℕ) (found : Option ℕ) → IsFirstByte test bytes found → option_map (λ k. i + k) found ≡ position_from test i bytes
+first_from : (test : ℕ → Bool) (bytes : List ℕ) (i : ℕ) (found : Option ℕ) → IsFirstByte test bytes found
+    → option_map (λ k. i + k) found ≡ position_from test i bytes
 first_from test [] i None none = refl
 first_from test [] i (Some k) first = absurd (omega arith)
 first_from test (byte ∷ bytes) i found first = by (first_from test bytes (i + 1)) (test byte) found refl first
   where
     by : ((later : Option ℕ) → IsFirstByte test bytes later → option_map (λ k. i + 1 + k) later ≡ position_from test (i + 1) bytes) →
-        (passes : Bool) (found : Option ℕ) → test byte ≡ passes → IsFirstByte test (byte ∷ bytes) found → option_map (λ k. i + k) found ≡ cond passes (Some i) (position_from test (i + 1) bytes)
+        (passes : Bool) (found : Option ℕ) → test byte ≡ passes → IsFirstByte test (byte ∷ bytes) found
+        → option_map (λ k. i + k) found ≡ cond passes (Some i) (position_from test (i + 1) bytes)
     by later true None e none = absurd (none 0 (omega arith) (omega arith) e)
     by later true (Some zero) e first = ap Some (omega arith)
     by later true (Some (suc k)) e first = absurd (first.0.before 0 (omega arith) (omega arith) e)

@@ -87,7 +87,8 @@ cells P all (a ∷ b ∷ c ∷ d ∷ e ∷ f ∷ g ∷ []) eight = absurd cc
 cells P all (a ∷ b ∷ c ∷ d ∷ e ∷ f ∷ g ∷ h ∷ []) eight = all a b c d e f g h
 cells P all (a ∷ b ∷ c ∷ d ∷ e ∷ f ∷ g ∷ h ∷ i ∷ more) eight = absurd cc
 
-split_groups : (a b c d e f g h : ℕ) → AreGroups (a ∷ b ∷ c ∷ d ∷ e ∷ f ∷ g ∷ h ∷ []) → groups_of (joined_groups 0 (a ∷ b ∷ c ∷ d ∷ e ∷ f ∷ g ∷ h ∷ [])) ≡ a ∷ b ∷ c ∷ d ∷ e ∷ f ∷ g ∷ h ∷ []
+split_groups : (a b c d e f g h : ℕ) → AreGroups (a ∷ b ∷ c ∷ d ∷ e ∷ f ∷ g ∷ h ∷ [])
+    → groups_of (joined_groups 0 (a ∷ b ∷ c ∷ d ∷ e ∷ f ∷ g ∷ h ∷ [])) ≡ a ∷ b ∷ c ∷ d ∷ e ∷ f ∷ g ∷ h ∷ []
 split_groups a b c d e f g h small =
     let n : ℕ = joined_groups 0 (a ∷ b ∷ c ∷ d ∷ e ∷ f ∷ g ∷ h ∷ []) in
     let n1 : ℕ = joined_groups 0 (a ∷ []) in
@@ -122,7 +123,8 @@ joined_below high most [] small below = omega arith
 joined_below high most (group ∷ groups) small below =
     let here : group < 65536 = small.0 in
     let next : high * 65536 + group < most * 65536 = omega arith in
-    let later : joined_groups (high * 65536 + group) groups < most * 65536 * 65536 ^ length groups = joined_below (high * 65536 + group) (most * 65536) groups small.1 next in
+    let later : joined_groups (high * 65536 + group) groups < most * 65536 * 65536 ^ length groups =
+    joined_below (high * 65536 + group) (most * 65536) groups small.1 next in
     subst (λ p. joined_groups (high * 65536 + group) groups < p) (grown (length groups)) later
   where
     grown : (k : ℕ) → most * 65536 * 65536 ^ k ≡ most * 65536 ^ suc k

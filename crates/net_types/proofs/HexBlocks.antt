@@ -30,7 +30,8 @@ pub written : (text : List ℕ) (n : ℕ) (r : Result Unit FromHexError) (out : 
 written text n r out small len w =
     tail_decoded text small
     ∙ ap (λ m. result_ok (decode_sized text m)) (sym len)
-    ∙ elim (decode_sized text n) as (λ d. MatchResult d (λ bytes. (r ≡ Ok tt) × (out ≡ bytes)) (λ e. r ≡ Err e) → result_ok d ≡ option_map (λ _. out) (result_ok r)) [
+    ∙ elim (decode_sized text n) as
+    (λ d. MatchResult d (λ bytes. (r ≡ Ok tt) × (out ≡ bytes)) (λ e. r ≡ Err e) → result_ok d ≡ option_map (λ _. out) (result_ok r)) [
       | Ok bytes ↦ λ given. ap (λ b. Some b) (sym given.1) ∙ ap (λ q. option_map (λ _. out) (result_ok q)) (sym given.0)
       | Err e ↦ λ given. ap (λ q. option_map (λ _. out) (result_ok q)) (sym given)
     ] w
@@ -79,7 +80,8 @@ pairs_cut text long =
     let len : length (take 32 text) ≡ 32 = length-take-le 32 text long in
     ap pairs_at (sym (take-append-drop 32 text)) ∙ pairs-append (take 32 text) (drop 32 text) (omega (arith, len))
 
-further : (items more : List ℕ) (rest : Option (List ℕ)) → option_map (λ xs. (items ++ more) ++ xs) rest ≡ option_map (λ xs. items ++ xs) (both (Some more) rest)
+further : (items more : List ℕ) (rest : Option (List ℕ))
+    → option_map (λ xs. (items ++ more) ++ xs) rest ≡ option_map (λ xs. items ++ xs) (both (Some more) rest)
 further items more None = refl
 further items more (Some xs) = ap (λ ys. Some ys) (append_assoc items more xs)
 

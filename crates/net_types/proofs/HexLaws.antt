@@ -56,8 +56,10 @@ pairs_sound (x ∷ y ∷ rest) bs e =
     let others = passed (pairs_at rest) _ bs first.gives in
     let whole : first.value ∷ others.value ≡ bs = some_same others.gives in
     let s = byte_sound (x ∷ y ∷ []) first.value first.was in
-    let t = pairs_sound rest others.value others.was in
-    (ap (λ p. p ++ rest) s.0 ∙ ap (λ r. byte_hex first.value ++ r) t.0 ∙ ap (flat_map byte_hex) whole, subst AreBytes whole (cons_bytes first.value others.value s.1 t.1))
+    let t = pairs_sound rest others.value others.was in (
+      ap (λ p. p ++ rest) s.0 ∙ ap (λ r. byte_hex first.value ++ r) t.0 ∙ ap (flat_map byte_hex) whole,
+      subst AreBytes whole (cons_bytes first.value others.value s.1 t.1),
+    )
 
 -- ---- the digits that `hex` writes
 
@@ -108,7 +110,8 @@ same_digit c small = grind (arith, nat_tests)
 abbrev joined : Option ℕ → Option ℕ → Option ℕ
 joined high low = option_and_then (λ h. option_and_then (λ l. Some (h * 16 + l)) low) high
 
-both : (x y i : ℕ) (high low : Option ℕ) → result_ok (digit_or_error x i high >>= (λ h. digit_or_error y (i + 1) low >>= (λ l. Ok (h * 16 + l)))) ≡ joined high low
+both : (x y i : ℕ) (high low : Option ℕ)
+    → result_ok (digit_or_error x i high >>= (λ h. digit_or_error y (i + 1) low >>= (λ l. Ok (h * 16 + l)))) ≡ joined high low
 both x y i None low = refl
 both x y i (Some h) None = refl
 both x y i (Some h) (Some l) = refl
@@ -124,7 +127,8 @@ pair_same x y i first second =
 abbrev in_front : Option ℕ → Option (List ℕ) → Option (List ℕ)
 in_front byte bytes = option_and_then (λ b. option_and_then (λ bs. Some (b ∷ bs)) bytes) byte
 
-one_more : (byte : Result ℕ FromHexError) (bytes : Result (List ℕ) FromHexError) → result_ok (byte >>= (λ b. bytes >>= (λ bs. Ok (b ∷ bs)))) ≡ in_front (result_ok byte) (result_ok bytes)
+one_more : (byte : Result ℕ FromHexError) (bytes : Result (List ℕ) FromHexError)
+    → result_ok (byte >>= (λ b. bytes >>= (λ bs. Ok (b ∷ bs)))) ≡ in_front (result_ok byte) (result_ok bytes)
 one_more (Err e) bytes = refl
 one_more (Ok b) (Err e) = refl
 one_more (Ok b) (Ok bs) = refl

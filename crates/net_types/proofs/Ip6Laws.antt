@@ -53,14 +53,16 @@ groups_none text never =
 pub ip6_found : (text : List ℕ) (ip : Ip6) → ip6_at text ≡ Some ip → SpellsIp6 text ip
 unfolding ip6_at
 ip6_found text ip e =
-    elim (list_all is_group_byte text) as (λ b. list_all is_group_byte text ≡ b → cond b (option_map ip6_from (groups_at text)) None ≡ Some ip → SpellsIp6 text ip) [
+    elim (list_all is_group_byte text) as
+    (λ b. list_all is_group_byte text ≡ b → cond b (option_map ip6_from (groups_at text)) None ≡ Some ip → SpellsIp6 text ip) [
       | true ↦ λ bytes q.
           let m = mapped ip6_from (groups_at text) ip q in
           let is = groups_sound text m.value m.was in
           let eight = spelled_eight text m.value is in
           record {
             bytes = bytes;
-            groups = subst (λ (i : Ip6). IsColonHex text (groups_of i.number)) m.gives (subst (λ gs. IsColonHex text gs) (sym (groups_joined m.value eight)) is);
+            groups =
+                subst (λ (i : Ip6). IsColonHex text (groups_of i.number)) m.gives (subst (λ gs. IsColonHex text gs) (sym (groups_joined m.value eight)) is);
             range = subst (λ (i : Ip6). i.number < 340282366920938463463374607431768211456) m.gives (joined_range m.value eight);
           }
       | false ↦ λ bytes q. let never : ⊥ = cc in absurd never
@@ -121,7 +123,8 @@ net6_whole text net spells =
     let small : 129 ≤ 2 ^ 64 = omega arith in
     let below : net.len < 129 = let most = spells.prefix in omega arith in
     let cut : split_at_byte 47 text ≡ Some (spells.address, decimal net.len) =
-    ap (split_at_byte 47) (spells.spelled ∙ append_assoc spells.address (47 ∷ []) (decimal net.len)) ∙ split_whole 47 spells.address (decimal net.len) (no_slash spells.address net.ip spells.spells) in
+    ap (split_at_byte 47) (spells.spelled ∙ append_assoc spells.address (47 ∷ []) (decimal net.len))
+    ∙ split_whole 47 spells.address (decimal net.len) (no_slash spells.address net.ip spells.spells) in
     rw (cut, ip6_whole spells.address net.ip spells.spells, (number_reads 129 small).whole net.len below) refl
 
 pub net6_one : (text : List ℕ) (a b : Net6) → SpellsNet6 text a → SpellsNet6 text b → a ≡ b

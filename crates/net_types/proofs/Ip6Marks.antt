@@ -65,14 +65,19 @@ parted_in run ss small =
 compressed_in : (ss : List ℕ) → AreGroups ss → Only is_ip6_byte (hex_groups_text ss)
 unfolding hex_groups_text
 compressed_in ss small =
-    elim (ltb 1 (longest_zero_run ss).1) as (λ b. Only is_ip6_byte (cond b (groups_text (take (longest_zero_run ss).0 ss) ++ 58 ∷ 58 ∷ [] ++ groups_text (drop ((longest_zero_run ss).0 + (longest_zero_run ss).1) ss)) (groups_text ss))) [
+    elim (ltb 1 (longest_zero_run ss).1) as
+    (λ b. Only is_ip6_byte
+    (cond b (groups_text (take (longest_zero_run ss).0 ss) ++ 58 ∷ 58 ∷ [] ++ groups_text (drop ((longest_zero_run ss).0 + (longest_zero_run ss).1) ss))
+    (groups_text ss))) [
       | true ↦ parted_in (longest_zero_run ss) ss small
       | false ↦ groups_in ss small
     ]
 
 pub ip6_only : (ip : Ip6) → Only is_ip6_byte (ip6_text ip)
 unfolding ip6_text
-ip6_only ip = compressed_in (groups_of ip.number) (omega arith, (omega arith, (omega arith, (omega arith, (omega arith, (omega arith, (omega arith, (omega arith, tt))))))))
+ip6_only ip =
+    compressed_in (groups_of ip.number)
+    (omega arith, (omega arith, (omega arith, (omega arith, (omega arith, (omega arith, (omega arith, (omega arith, tt))))))))
 
 pub ip6_lacks : (ip : Ip6) (byte : ℕ) → is_ip6_byte byte ≡ false → Lacks byte (ip6_text ip)
 ip6_lacks ip byte other = lacks_from is_ip6_byte byte (ip6_text ip) other (ip6_only ip)

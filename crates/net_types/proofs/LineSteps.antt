@@ -12,7 +12,8 @@ pub text_more : (lines more : List Line) → lines_text (lines ++ more) ≡ line
 text_more [] more = refl
 text_more (line ∷ lines) more = ap (λ t. ended line ++ t) (text_more lines more) ∙ sym (append_assoc (ended line) (lines_text lines) (lines_text more))
 
-pub run_more : {S : Type 0} (step : S → Line → Option S) (lines more : List Line) (s t : S) → run step lines s ≡ Some t → run step (lines ++ more) s ≡ run step more t
+pub run_more : {S : Type 0} (step : S → Line → Option S) (lines more : List Line) (s t : S) → run step lines s ≡ Some t
+    → run step (lines ++ more) s ≡ run step more t
 run_more step [] more s t e = ap (run step more) (some_same e)
 run_more {S} step (line ∷ lines) more s t e =
     elim (step s line) as (λ o. option_and_then (run step lines) o ≡ Some t → option_and_then (run step (lines ++ more)) o ≡ run step more t) [
@@ -27,7 +28,9 @@ are_more (first ∷ lines) line are lacks = (are.0, are_more lines line are.1 la
 pub took_none : {S : Type 0} (step : S → Line → Option S) (start : S) (text : List ℕ) → Took step start text text 1 start
 took_none step start text = record { lines = []; are = tt; cut = refl; counted = refl; runs = refl }
 
-pub took_next : {S : Type 0} (step : S → Line → Option S) (start : S) (text rest others : List ℕ) (number : ℕ) (state next : S) (line : Line) → Took step start text rest number state → split_at_byte 10 rest ≡ Some (line, others) → step state line ≡ Some next → Took step start text others (number + 1) next
+pub took_next : {S : Type 0} (step : S → Line → Option S) (start : S) (text rest others : List ℕ) (number : ℕ) (state next : S) (line : Line)
+    → Took step start text rest number state → split_at_byte 10 rest ≡ Some (line, others) → step state line ≡ Some next
+    → Took step start text others (number + 1) next
 took_next step start text rest others number state next line took split taken =
     let cut = split_sound 10 rest line others split in
     record {
@@ -44,10 +47,12 @@ lines_short : (lines : List Line) → length lines ≤ length (lines_text lines)
 lines_short [] = omega arith
 lines_short (line ∷ lines) =
     let later = lines_short lines in
-    let whole : length (lines_text (line ∷ lines)) ≡ length line + 1 + length (lines_text lines) = length-append (ended line) (lines_text lines) ∙ ap (λ n. n + length (lines_text lines)) (length-append line (10 ∷ [])) in
+    let whole : length (lines_text (line ∷ lines)) ≡ length line + 1 + length (lines_text lines) =
+    length-append (ended line) (lines_text lines) ∙ ap (λ n. n + length (lines_text lines)) (length-append line (10 ∷ [])) in
     omega arith
 
-pub took_within : {S : Type 0} (step : S → Line → Option S) (start : S) (text rest : List ℕ) (number : ℕ) (state : S) → Took step start text rest number state → number + length rest ≤ length text + 1
+pub took_within : {S : Type 0} (step : S → Line → Option S) (start : S) (text rest : List ℕ) (number : ℕ) (state : S) → Took step start text rest number state
+    → number + length rest ≤ length text + 1
 took_within step start text rest number state took =
     let short = lines_short took.lines in
     let whole : length text ≡ length (lines_text took.lines) + length rest = ap length took.cut ∙ length-append (lines_text took.lines) rest in

@@ -70,7 +70,8 @@ is_hex_byte b = is_hex_digit b || eqb b 45
 
 pub hex_only : (bytes : List ℕ) → AreBytes bytes → Only is_hex_byte (hex_text bytes)
 hex_only [] fits = rw hex_text_none refl
-hex_only (b ∷ bs) fits = rw (hex_text_some b bs) (only_weaker is_hex_digit is_hex_byte (flat_map byte_hex (b ∷ bs)) (λ c h. or_left _ _ h) (pairs_only (b ∷ bs) fits))
+hex_only (b ∷ bs) fits =
+    rw (hex_text_some b bs) (only_weaker is_hex_digit is_hex_byte (flat_map byte_hex (b ∷ bs)) (λ c h. or_left _ _ h) (pairs_only (b ∷ bs) fits))
   where
     pairs_only : (bytes : List ℕ) → AreBytes bytes → Only is_hex_digit (flat_map byte_hex bytes)
     pairs_only [] fits = refl
@@ -89,14 +90,17 @@ decimal_part n small = only_weaker is_ascii_digit is_ip4_byte (decimal n) (λ c 
 
 dotted_only : (a b c d : ℕ) → a < 2 ^ 64 → b < 2 ^ 64 → c < 2 ^ 64 → d < 2 ^ 64 → Only is_ip4_byte (dotted_text a b c d)
 dotted_only a b c d sa sb sc sd =
-    next (decimal a ++ 46 ∷ [] ++ decimal b ++ 46 ∷ [] ++ decimal c) d sd (next (decimal a ++ 46 ∷ [] ++ decimal b) c sc (next (decimal a) b sb (decimal_part a sa)))
+    next (decimal a ++ 46 ∷ [] ++ decimal b ++ 46 ∷ [] ++ decimal c) d sd
+    (next (decimal a ++ 46 ∷ [] ++ decimal b) c sc (next (decimal a) b sb (decimal_part a sa)))
   where
     next : (xs : List ℕ) (n : ℕ) → n < 2 ^ 64 → Only is_ip4_byte xs → Only is_ip4_byte (xs ++ 46 ∷ [] ++ decimal n)
     next xs n small only = only-append is_ip4_byte (xs ++ 46 ∷ []) (decimal n) (only-append is_ip4_byte xs (46 ∷ []) only refl) (decimal_part n small)
 
 pub ip4_only : (ip : Ip4) → FitsIp4 ip → Only is_ip4_byte (ip4_text ip)
 unfolding ip4_text
-ip4_only ip fits = dotted_only (ip.number / 16777216) (ip.number / 65536 % 256) (ip.number / 256 % 256) (ip.number % 256) (omega arith) (omega arith) (omega arith) (omega arith)
+ip4_only ip fits =
+    dotted_only (ip.number / 16777216) (ip.number / 65536 % 256) (ip.number / 256 % 256) (ip.number % 256) (omega arith) (omega arith) (omega arith)
+    (omega arith)
 
 pub ip4_lacks : (ip : Ip4) (byte : ℕ) → FitsIp4 ip → is_ip4_byte byte ≡ false → Lacks byte (ip4_text ip)
 ip4_lacks ip byte fits other = lacks_from is_ip4_byte byte (ip4_text ip) other (ip4_only ip fits)
@@ -108,8 +112,10 @@ pub net4_only : (net : Net4) → FitsNet4 net → Only is_net4_byte (net4_text n
 unfolding net4_text
 net4_only net fits =
     only-append is_net4_byte (ip4_text net.ip ++ 47 ∷ []) (decimal net.len)
-    (only-append is_net4_byte (ip4_text net.ip) (47 ∷ []) (only_weaker is_ip4_byte is_net4_byte (ip4_text net.ip) (λ c h. or_left _ _ h) (ip4_only net.ip fits.address)) refl)
-    (only_weaker is_ascii_digit is_net4_byte (decimal net.len) (λ c h. or_left _ _ (or_left _ _ h)) (decimal_only net.len (let small = fits.prefix in omega arith)))
+    (only-append is_net4_byte (ip4_text net.ip) (47 ∷ [])
+    (only_weaker is_ip4_byte is_net4_byte (ip4_text net.ip) (λ c h. or_left _ _ h) (ip4_only net.ip fits.address)) refl)
+    (only_weaker is_ascii_digit is_net4_byte (decimal net.len) (λ c h. or_left _ _ (or_left _ _ h))
+    (decimal_only net.len (let small = fits.prefix in omega arith)))
 
 pub net4_lacks : (net : Net4) (byte : ℕ) → FitsNet4 net → is_net4_byte byte ≡ false → Lacks byte (net4_text net)
 net4_lacks net byte fits other = lacks_from is_net4_byte byte (net4_text net) other (net4_only net fits)
@@ -124,14 +130,17 @@ colon_only : (a b c d e f : ℕ) → a < 256 → b < 256 → c < 256 → d < 256
 colon_only a b c d e f sa sb sc sd se sf =
     next (byte_hex a ++ 58 ∷ [] ++ byte_hex b ++ 58 ∷ [] ++ byte_hex c ++ 58 ∷ [] ++ byte_hex d ++ 58 ∷ [] ++ byte_hex e) f sf (
     next (byte_hex a ++ 58 ∷ [] ++ byte_hex b ++ 58 ∷ [] ++ byte_hex c ++ 58 ∷ [] ++ byte_hex d) e se (
-    next (byte_hex a ++ 58 ∷ [] ++ byte_hex b ++ 58 ∷ [] ++ byte_hex c) d sd (next (byte_hex a ++ 58 ∷ [] ++ byte_hex b) c sc (next (byte_hex a) b sb (mac_byte_only a sa)))))
+    next (byte_hex a ++ 58 ∷ [] ++ byte_hex b ++ 58 ∷ [] ++ byte_hex c) d sd
+    (next (byte_hex a ++ 58 ∷ [] ++ byte_hex b) c sc (next (byte_hex a) b sb (mac_byte_only a sa)))))
   where
     next : (xs : List ℕ) (n : ℕ) → n < 256 → Only is_mac_byte xs → Only is_mac_byte (xs ++ 58 ∷ [] ++ byte_hex n)
     next xs n small only = only-append is_mac_byte (xs ++ 58 ∷ []) (byte_hex n) (only-append is_mac_byte xs (58 ∷ []) only refl) (mac_byte_only n small)
 
 pub mac_only : (mac : Mac) → FitsMac mac → Only is_mac_byte (mac_text mac)
 unfolding mac_text
-mac_only mac fits = colon_only (get_or mac.bytes 0 0) (get_or mac.bytes 1 0) (get_or mac.bytes 2 0) (get_or mac.bytes 3 0) (get_or mac.bytes 4 0) (get_or mac.bytes 5 0) (fits.range 0) (fits.range 1) (fits.range 2) (fits.range 3) (fits.range 4) (fits.range 5)
+mac_only mac fits =
+    colon_only (get_or mac.bytes 0 0) (get_or mac.bytes 1 0) (get_or mac.bytes 2 0) (get_or mac.bytes 3 0) (get_or mac.bytes 4 0) (get_or mac.bytes 5 0)
+    (fits.range 0) (fits.range 1) (fits.range 2) (fits.range 3) (fits.range 4) (fits.range 5)
 
 pub mac_lacks : (mac : Mac) (byte : ℕ) → FitsMac mac → is_mac_byte byte ≡ false → Lacks byte (mac_text mac)
 mac_lacks mac byte fits other = lacks_from is_mac_byte byte (mac_text mac) other (mac_only mac fits)

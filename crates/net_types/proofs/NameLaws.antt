@@ -17,7 +17,8 @@ unfolding name_at name_text
 name_whole name fits =
     let inside : name.len ≤ length name.bytes = let f = fits.fifteen in let w = fits.within in omega arith in
     let long : length (take name.len name.bytes) ≡ name.len = length-take-le name.len name.bytes inside in
-    let rest : take name.len name.bytes ++ replicate (15 - name.len) 0 ≡ name.bytes = ap (λ r. take name.len name.bytes ++ r) (sym fits.padded) ∙ take-append-drop name.len name.bytes in
+    let rest : take name.len name.bytes ++ replicate (15 - name.len) 0 ≡ name.bytes =
+    ap (λ r. take name.len name.bytes ++ r) (sym fits.padded) ∙ take-append-drop name.len name.bytes in
     rw (fits.spelled, long, rest) refl
 
 pub is_name_short : (text : List ℕ) → is_name text ≡ true → length text < 16
@@ -70,7 +71,8 @@ name_reads = record { sound = name_sound; whole = name_whole }
 name_bytes : (text : List ℕ) → is_name text ≡ true → Only is_name_byte text
 unfolding is_name
 name_bytes text e =
-    elim (is_ascii_alphanumeric (slice_index text 0)) as (λ b. cond b (ltb (length text) 16 && list_all is_name_byte text) false ≡ true → list_all is_name_byte text ≡ true) [
+    elim (is_ascii_alphanumeric (slice_index text 0)) as
+    (λ b. cond b (ltb (length text) 16 && list_all is_name_byte text) false ≡ true → list_all is_name_byte text ≡ true) [
       | true ↦ λ q. (and_parts _ _ q).1
       | false ↦ λ q. absurd (false≢true q)
     ] e

@@ -31,7 +31,8 @@ told len small =
 
 pub shared : (ip : Ip4) (net : Net4) → Shares ip net
 shared ip net = (
-  (λ within. ap (λ n. record { ip = record { number = n }; len = net.len }) (without_rest ip.number size ∙ ap (λ q. q * size) (eqb-true _ _ within) ∙ sym (without_rest net.ip.number size))),
+  (λ within. ap (λ n. record { ip = record { number = n }; len = net.len })
+      (without_rest ip.number size ∙ ap (λ q. q * size) (eqb-true _ _ within) ∙ sym (without_rest net.ip.number size))),
   (λ same. eq-eqb _ _ (quotients (sym (without_rest ip.number size) ∙ ap (λ n. n.ip.number) same ∙ without_rest net.ip.number size))),
 )
   where

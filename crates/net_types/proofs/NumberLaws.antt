@@ -25,7 +25,9 @@ pub record Numeral (text : List ℕ) : Type 0 where
 pub numeral_is : (text : List ℕ) → is_numeral text ≡ true → Numeral text
 unfolding is_numeral
 numeral_is text e =
-    elim (eqb (get_or text 0 0) 48) as (λ b. eqb (get_or text 0 0) 48 ≡ b → cond b (eqb (length text) 1) (ltb 0 (length text) && ltb (length text) 21 && list_all is_ascii_digit text) ≡ true → Numeral text) [
+    elim (eqb (get_or text 0 0) 48) as
+    (λ b. eqb (get_or text 0 0) 48 ≡ b → cond b (eqb (length text) 1) (ltb 0 (length text) && ltb (length text) 21 && list_all is_ascii_digit text) ≡ true
+    → Numeral text) [
       | true ↦ λ t q. zero_is text (eqb-true _ _ t) (eqb-true _ _ q)
       | false ↦ λ t q.
           let outer = and_parts (ltb 0 (length text) && ltb (length text) 21) _ q in
@@ -45,7 +47,8 @@ numeral_is text e =
 pub is_a_numeral : (text : List ℕ) → Numeral text → is_numeral text ≡ true
 unfolding is_numeral
 is_a_numeral text n =
-    elim (eqb (get_or text 0 0) 48) as (λ b. eqb (get_or text 0 0) 48 ≡ b → cond b (eqb (length text) 1) (ltb 0 (length text) && ltb (length text) 21 && list_all is_ascii_digit text) ≡ true) [
+    elim (eqb (get_or text 0 0) 48) as
+    (λ b. eqb (get_or text 0 0) 48 ≡ b → cond b (eqb (length text) 1) (ltb 0 (length text) && ltb (length text) 21 && list_all is_ascii_digit text) ≡ true) [
       | true ↦ λ t. eq-eqb _ _ (n.plain (eqb-true _ _ t))
       | false ↦ λ t. and_from _ _ (and_from _ _ (lt-ltb _ _ n.some) (let short : length text < 21 = omega arith in lt-ltb _ _ short)) n.digits
     ] refl
@@ -58,7 +61,8 @@ pub record IsNumber (limit : ℕ) (text : List ℕ) (n : ℕ) : Type 0 where
 pub number_some : (limit : ℕ) (text : List ℕ) (n : ℕ) → number_at limit text ≡ Some n → IsNumber limit text n
 unfolding number_at
 number_some limit text n e =
-    elim (is_numeral text && ltb (digits_value 10 text) limit) as (λ b. (is_numeral text && ltb (digits_value 10 text) limit) ≡ b → cond b (Some (digits_value 10 text)) None ≡ Some n → IsNumber limit text n) [
+    elim (is_numeral text && ltb (digits_value 10 text) limit) as
+    (λ b. (is_numeral text && ltb (digits_value 10 text) limit) ≡ b → cond b (Some (digits_value 10 text)) None ≡ Some n → IsNumber limit text n) [
       | true ↦ λ t q.
           let parts = and_parts (is_numeral text) _ t in
           let value : digits_value 10 text ≡ n = cc in
@@ -114,7 +118,8 @@ no_numeral limit text e = rw e refl
 pub number_parsed : {E : Type 0} (text : List ℕ) (r : Result ℕ E) → is_numeral text ≡ true → ParsesUnsigned 64 10 text r → result_ok r ≡ number_at (2 ^ 64) text
 number_parsed text r e parsed = of_result r (parse_digits own 64 text r parsed (numeral_is text e).digits)
   where
-    of_result : {E : Type 0} (r : Result ℕ E) → OkIff r ((0 < length text) × (digits_value 10 text < 2 ^ 64)) (digits_value 10 text) → result_ok r ≡ number_at (2 ^ 64) text
+    of_result : {E : Type 0} (r : Result ℕ E) → OkIff r ((0 < length text) × (digits_value 10 text < 2 ^ 64)) (digits_value 10 text)
+        → result_ok r ≡ number_at (2 ^ 64) text
     of_result (Ok n) is = sym (number_from (2 ^ 64) text n (record { numeral = e; value = sym is.1; below = subst (λ m. m < 2 ^ 64) (sym is.1) is.0.1 }))
     of_result (Err f) is = too_large is
       where
@@ -149,5 +154,8 @@ number_none limit text small e = none_of (number_at limit text) refl
     none_of None was = was
     none_of (Some m) was =
         let one = number_some limit text m was in
-        let whole : number_at (2 ^ 64) text ≡ Some m = number_limited (2 ^ 64) text m (number_from (2 ^ 64) text m (record { numeral = one.numeral; value = one.value; below = (let b = one.below in omega arith) })) (let b = one.below in omega arith) in
+        let whole : number_at (2 ^ 64) text ≡ Some m =
+        number_limited (2 ^ 64) text m
+        (number_from (2 ^ 64) text m (record { numeral = one.numeral; value = one.value; below = (let b = one.below in omega arith) }))
+        (let b = one.below in omega arith) in
         cc

@@ -1,4 +1,5 @@
--- Numbers and addresses in network order: what stands at a place of bytes, and how a value is spelled (RFC 791, appendix B).
+-- Numbers and addresses in network order: what stands at a place of bytes, and how a value is spelled (RFC 791,
+-- appendix B).
 use Rattle.std.specs.Prelude.{ℕ, List, take, drop}
 use Rattle.std.specs.Int.{w16, w32, w128, from_be_bytes, to_be_bytes}
 use Rattle.net_types.specs.declared.address.Ip4.{Ip4}

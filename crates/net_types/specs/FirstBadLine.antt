@@ -39,7 +39,8 @@ Breaks Spells text lines End = NoneIs Spells text
 
 -- Line `number` is the first bad one: some good text begins with the lines before it, and none goes on with what comes
 -- next. `Why` says which cause that has.
-pub record FirstBad {V C : Type 0} (Spells : V → List Line → Type 0) (Why : List Line → Front → C → Type 0) (text : List ℕ) (number : ℕ) (cause : C) : Type 0 where
+pub record FirstBad {V C : Type 0} (Spells : V → List Line → Type 0) (Why : List Line → Front → C → Type 0)
+    (text : List ℕ) (number : ℕ) (cause : C) : Type 0 where
   pub lines : List Line
   pub rest : List ℕ
   pub are : AreLines lines
@@ -50,6 +51,7 @@ pub record FirstBad {V C : Type 0} (Spells : V → List Line → Type 0) (Why : 
   pub why : Why lines (front_in rest) cause
 
 -- why a text gives no value: its first bad line, or memory ran out
-abbrev pub FirstFault : {V C : Type 0} → (V → List Line → Type 0) → (List Line → Front → C → Type 0) → List ℕ → TextFault C → Type 0
+abbrev pub FirstFault : {V C : Type 0} → (V → List Line → Type 0) → (List Line → Front → C → Type 0) → List ℕ
+    → TextFault C → Type 0
 FirstFault Spells Why text (Bad number cause) = FirstBad Spells Why text number cause
 FirstFault Spells Why text NoMemory = Unit {0}

@@ -1,5 +1,5 @@
--- The texts of IPv6 addresses and nets that are read (RFC 4291, section 2.2): eight numbers in hexadecimal, each of at most
--- four digits, parted by colons, or fewer where `::` stands for one zero or more. A dotted tail is no such text.
+-- The texts of IPv6 addresses and nets that are read (RFC 4291, section 2.2): eight numbers in hexadecimal, each of at
+-- most four digits, parted by colons, or fewer where `::` stands for one zero or more. A dotted tail is no such text.
 use Rattle.std.specs.Prelude.{◌≡◌, ℕ, ◌+◌, ◌*◌, ◌≤◌, Bool, ◌||◌, List, [], ◌∷◌, ◌++◌, Option, Some, None, option_map, bytes_eq, codes, decimal, ◌==◌, if◌then◌else◌}
 use Rattle.std.specs.Char.{is_ascii_hexdigit}
 use Rattle.std.specs.List.{list_all}

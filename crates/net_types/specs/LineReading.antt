@@ -12,7 +12,8 @@ run step [] state = Some state
 run step (line ∷ lines) state = option_and_then (run step lines) (step state line)
 
 -- lines up to the rest were taken, and the next one has this number
-pub record Took {S : Type 0} (step : S → Line → Option S) (start : S) (text rest : List ℕ) (number : ℕ) (state : S) : Type 0 where
+pub record Took {S : Type 0} (step : S → Line → Option S) (start : S) (text rest : List ℕ) (number : ℕ)
+    (state : S) : Type 0 where
   pub lines : List Line
   pub are : AreLines lines
   pub cut : text ≡ lines_text lines ++ rest
@@ -20,7 +21,8 @@ pub record Took {S : Type 0} (step : S → Line → Option S) (start : S) (text 
   pub runs : run step lines start ≡ Some state
 
 -- all lines were taken, and the last state gives the value
-pub record Gives {S V : Type 0} (step : S → Line → Option S) (given : S → Option V) (start : S) (text : List ℕ) (value : V) : Type 0 where
+pub record Gives {S V : Type 0} (step : S → Line → Option S) (given : S → Option V) (start : S) (text : List ℕ)
+    (value : V) : Type 0 where
   pub number : ℕ
   pub state : S
   pub took : Took step start text [] number state
@@ -33,7 +35,8 @@ StopsAt step given state (Unended rest) = Unit {0}
 StopsAt step given state End = given state ≡ None
 
 -- the state after the lines before line `number` can't go on, for this cause
-pub record Stopped {S V C : Type 0} (step : S → Line → Option S) (given : S → Option V) (cause_of : S → Front → C) (start : S) (text : List ℕ) (number : ℕ) (why : C) : Type 0 where
+pub record Stopped {S V C : Type 0} (step : S → Line → Option S) (given : S → Option V) (cause_of : S → Front → C)
+    (start : S) (text : List ℕ) (number : ℕ) (why : C) : Type 0 where
   pub rest : List ℕ
   pub state : S
   pub took : Took step start text rest number state
@@ -45,6 +48,7 @@ abbrev pub Refuses : {S C : Type 0} → Option S → C → LineFault C → Type 
 Refuses next why (faults.Bad cause) = (next ≡ None) × (cause ≡ why)
 Refuses next why faults.NoMemory = Unit {0}
 
-abbrev pub Stops : {S V C : Type 0} → (S → Line → Option S) → (S → Option V) → (S → Front → C) → S → List ℕ → TextFault C → Type 0
+abbrev pub Stops : {S V C : Type 0} → (S → Line → Option S) → (S → Option V) → (S → Front → C) → S → List ℕ
+    → TextFault C → Type 0
 Stops step given cause_of start text (Bad number cause) = Stopped step given cause_of start text number cause
 Stops step given cause_of start text NoMemory = Unit {0}

@@ -93,7 +93,8 @@ pub trait LineState: Sized {
     /// The state after one line more.
     fn take(self, alloc: Global, line: &[u8]) -> Result<Self, LineFault<Self::Cause>>
         ensures taken { IfOk result (λ next. step (state self) line.now ≡ Some (state next)) }
-        ensures bad { IfErr result (λ fault. Refuses (step (state self) line.now) (cause (state self) (Whole line.now)) fault) };
+        ensures bad { IfErr result
+            (λ fault. Refuses (step (state self) line.now) (cause (state self) (Whole line.now)) fault) };
 
     /// Why a last line without a line feed is bad.
     fn unended(&self, rest: &[u8]) -> Self::Cause

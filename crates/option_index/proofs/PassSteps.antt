@@ -50,7 +50,8 @@ pass_by at area (Whole n) within e room = (
       ∙ pair_is _ _ _ _ _ _ (code_is at area) (value_is at n area room.1) (ap instances_in (rest_is at n area)),
 )
 
-pub pass_from : (at : ℕ) (area rest : List ℕ) (front : Front) → rest ≡ drop at area → at ≤ length area → front_of rest ≡ front → LiesIn rest front → PassBy area at front
+pub pass_from : (at : ℕ) (area rest : List ℕ) (front : Front) → rest ≡ drop at area → at ≤ length area → front_of rest ≡ front → LiesIn rest front
+    → PassBy area at front
 pass_from at area rest front e within exact room =
     pass_by at area front within (subst (λ (r : List ℕ). front_of r ≡ front) e exact) (subst (λ (r : List ℕ). LiesIn r front) e room)
 
@@ -62,14 +63,16 @@ Marks areas Nowhere value = ⊥
 Marks areas (At field at) value = StandsAt (field_bytes areas field) at × (value ≡ value_from (field_bytes areas field) at)
 Marks areas Unkept value = Unit {0}
 
-marks_at : (areas : Areas) (field : Field) (at : ℕ) → StandsAt (field_bytes areas field) at → Marks areas (place_at field at) (value_from (field_bytes areas field) at)
+marks_at : (areas : Areas) (field : Field) (at : ℕ) → StandsAt (field_bytes areas field) at
+    → Marks areas (place_at field at) (value_from (field_bytes areas field) at)
 marks_at areas field at stands = by (ltb at 65536) refl
   where
     by : (b : Bool) → ltb at 65536 ≡ b → Marks areas (place_at field at) (value_from (field_bytes areas field) at)
     by true e = rw e (stands, refl)
     by false e = rw e tt
 
-told_more : (areas : Areas) (old place : Place) (value : List ℕ) (all left : List (List ℕ)) → Told areas old all (value ∷ left) → Marks areas place value → Told areas (noted old place) all left
+told_more : (areas : Areas) (old place : Place) (value : List ℕ) (all left : List (List ℕ)) → Told areas old all (value ∷ left) → Marks areas place value
+    → Told areas (noted old place) all left
 told_more areas Nowhere Nowhere value all left told marks = absurd marks
 told_more areas Nowhere (At field at) value all left told marks = (marks.0, told ∙ ap (λ (v : List ℕ). v ∷ left) marks.1)
 told_more areas Nowhere Unkept value all left told marks = tt
@@ -83,7 +86,8 @@ pieces_other : (code c : ℕ) (value : List ℕ) (rest : List Instance) → eqb 
 pieces_other code c value rest e = rw e refl
 
 one_more : (areas : Areas) (all rest : List Instance) (places : List Place) (code : ℕ) (value : List ℕ) (place : Place) → code < length places
-    → Knows areas all ((code, value) ∷ rest) places → Marks areas place value → Knows areas all rest (set places code (noted (get_or places code Nowhere) place))
+    → Knows areas all ((code, value) ∷ rest) places → Marks areas place value
+    → Knows areas all rest (set places code (noted (get_or places code Nowhere) place))
 one_more areas all rest places code value place within known marks c below = by (eqb code c) refl
   where
     next : List Place
@@ -112,7 +116,8 @@ over_option : (areas : Areas) (field : Field) (bytes : List ℕ) → bytes ≡ f
     → Knows areas all (instances_in (drop (at + (2 + n)) bytes) ++ later)
     (set places (get_or bytes at 0) (noted (get_or places (get_or bytes at 0) Nowhere) (place_at field (at + 1))))
 over_option areas field bytes e at n all later places pass below known =
-    one_more areas all (instances_in (drop (at + (2 + n)) bytes) ++ later) places (get_or bytes at 0) (value_from bytes (at + 1)) (place_at field (at + 1)) below
+    one_more areas all (instances_in (drop (at + (2 + n)) bytes) ++ later) places (get_or bytes at 0) (value_from bytes (at + 1))
+    (place_at field (at + 1)) below
     (subst (λ (left : List Instance). Knows areas all (left ++ later) places) pass.2 known)
     (subst (λ (b : List ℕ). Marks areas (place_at field (at + 1)) (value_from b (at + 1))) (sym e)
     (marks_at areas field (at + 1) (subst (λ (b : List ℕ). StandsAt b (at + 1)) e stands)))
@@ -122,7 +127,8 @@ over_option areas field bytes e at n all later places pass below known =
 
 -- the same, with what the code made
 pub over_noted : (areas : Areas) (field : Field) (bytes : List ℕ) → bytes ≡ field_bytes areas field
-    → (at n : ℕ) (all later : List Instance) (places next : List Place) (place : Place) → PassBy bytes at (Whole n) → get_or bytes at 0 < 256 → length next ≡ 256
+    → (at n : ℕ) (all later : List Instance) (places next : List Place) (place : Place) → PassBy bytes at (Whole n) → get_or bytes at 0 < 256
+    → length next ≡ 256
     → place ≡ place_at field (at + 1) → next ≡ set places (get_or bytes at 0) (noted (get_or places (get_or bytes at 0) Nowhere) place)
     → Knows areas all (instances_in (drop at bytes) ++ later) places → Knows areas all (instances_in (drop (at + (2 + n)) bytes) ++ later) next
 over_noted areas field bytes e at n all later places next place pass below long place_is next_is known =
@@ -136,7 +142,8 @@ over_noted areas field bytes e at n all later places next place pass below long 
 -- ---- the fields one after another
 
 knows_start : (areas : Areas) (all : List Instance) → Knows areas all all (replicate 256 Nowhere)
-knows_start areas all code below = subst (λ (p : Place). Told areas p (pieces code all) (pieces code all)) (sym (get_or-replicate 256 code Nowhere Nowhere below)) refl
+knows_start areas all code below =
+    subst (λ (p : Place). Told areas p (pieces code all) (pieces code all)) (sym (get_or-replicate 256 code Nowhere Nowhere below)) refl
 
 knows_all : (areas : Areas) (options file sname : List Instance) (first second third : List Place)
     → Notes areas options (replicate 256 Nowhere) first → Notes areas file first second → Notes areas sname second third

@@ -36,7 +36,9 @@ PassBy area at Cut = instances_in (drop at area) ≡ []
 PassBy area at (Whole n) =
     (at + (2 + n) ≤ length area)
     × (slice_index area (at + 1) ≡ n)
-    × (instances_in (drop at area) ≡ (slice_index area at, value_from area (at + 1)) ∷ instances_in (drop (at + (2 + n)) area))
+    ×
+    (instances_in (drop at area)
+    ≡ (slice_index area at, value_from area (at + 1)) ∷ instances_in (drop (at + (2 + n)) area))
 
 -- an option whose length byte stands at a place lies within the bytes
 abbrev pub StandsAt : List ℕ → ℕ → Type 0

@@ -43,7 +43,8 @@ pub(crate) fn note_field(places: &mut [Place; CODES], areas: &Areas, field: Fiel
 
 /// Notes the instances of a field, where it is read.
 pub(crate) fn note_where(is_read: bool, places: &mut [Place; CODES], areas: &Areas, field: Field)
-    ensures { Notes areas.now (if is_read then instances_in (field_bytes areas.now field) else []) places.old places.new }
+    ensures { Notes areas.now
+        (if is_read then instances_in (field_bytes areas.now field) else []) places.old places.new }
 {
     if is_read {
         note_field(places, areas, field);

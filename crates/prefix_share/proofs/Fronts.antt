@@ -50,7 +50,8 @@ apart_of one other fit =
 together_of : (one other : Share) → not (one.len == other.len) ≡ false → (one.sla == other.sla) ≡ false → go_together one other ≡ true
 together_of one other same unlike = and_from _ _ (not-false _ same) (not_from_false _ unlike)
 
-at_seam : (one : Share) (before : List Share) (share : Share) (after : List Share) → list_all (go_together one) (before ++ share ∷ after) ≡ true → go_together one share ≡ true
+at_seam : (one : Share) (before : List Share) (share : Share) (after : List Share) → list_all (go_together one) (before ++ share ∷ after) ≡ true
+    → go_together one share ≡ true
 at_seam one before share after all =
     let both = and_parts _ _ (sym (list_all-append (go_together one) before (share ∷ after)) ∙ all) in
     (and_parts _ _ both.1).0
@@ -82,7 +83,8 @@ longer_plan (one ∷ before) share plan sound =
 more_shares : (shares : List Share) (i : ℕ) (d : Share) → i < length shares → take (i + 1) shares ≡ take i shares ++ get_or shares i d ∷ []
 more_shares shares i d inside = rw (add-one i) (take-suc shares i d inside)
 
-pub next_plan : (shares : List Share) (i : ℕ) (d : Share) → i < length shares → is_plan (take i shares) ≡ true → broken_by (take i shares) (get_or shares i d) ≡ None
+pub next_plan : (shares : List Share) (i : ℕ) (d : Share) → i < length shares → is_plan (take i shares) ≡ true
+    → broken_by (take i shares) (get_or shares i d) ≡ None
     → is_plan (take (i + 1) shares) ≡ true
 next_plan shares i d inside plan none =
     ap is_plan (more_shares shares i d inside) ∙ longer_plan (take i shares) (get_or shares i d) plan (unbroken_of (take i shares) (get_or shares i d) none)
@@ -143,10 +145,12 @@ some_none : (cause : ShareCause) → Some cause ≡ None → ⊥
 some_none cause same = grind (arith, same)
 
 -- shares of which one breaks a rule are no plan
-pub no_plan : (before : List Share) (share : Share) (after : List Share) (cause : ShareCause) → broken_by before share ≡ Some cause → is_plan (before ++ share ∷ after) ≡ true → ⊥
+pub no_plan : (before : List Share) (share : Share) (after : List Share) (cause : ShareCause) → broken_by before share ≡ Some cause
+    → is_plan (before ++ share ∷ after) ≡ true → ⊥
 no_plan before share after cause broken plan = some_none cause (sym broken ∙ none_of before share (unbroken before share after plan))
 
-breaks_none : (before : List Share) (share : Share) (longer : List Share) (cause : ShareCause) → Extends before share longer → is_plan longer ≡ true → broken_by before share ≡ Some cause → ⊥
+breaks_none : (before : List Share) (share : Share) (longer : List Share) (cause : ShareCause) → Extends before share longer → is_plan longer ≡ true
+    → broken_by before share ≡ Some cause → ⊥
 breaks_none before share longer cause more plan broken =
     no_plan before share more.0 cause broken (sym (ap is_plan more.1) ∙ plan)
 
@@ -160,10 +164,12 @@ one_fault shares one other first second =
       ]
     ]
   where
-    same_fault : (first : IsFirstFault shares one) (second : IsFirstFault shares other) → first.before ≡ second.before → first.share ≡ second.share → one ≡ other
+    same_fault : (first : IsFirstFault shares one) (second : IsFirstFault shares other) → first.before ≡ second.before → first.share ≡ second.share
+        → one ≡ other
     same_fault first second befores same =
         let places : one.share ≡ other.share = first.place ∙ ap (λ b. length b + 1) befores ∙ sym second.place in
-        let causes : Some one.cause ≡ Some other.cause = sym first.broken ∙ ap (λ b. broken_by b first.share) befores ∙ ap (λ s. broken_by second.before s) same ∙ second.broken in
+        let causes : Some one.cause ≡ Some other.cause =
+        sym first.broken ∙ ap (λ b. broken_by b first.share) befores ∙ ap (λ s. broken_by second.before s) same ∙ second.broken in
         grind (arith, places, causes)
 
 -- where there is a fault there is no plan

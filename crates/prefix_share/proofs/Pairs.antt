@@ -21,13 +21,15 @@ pairs : (shares : List Share) → is_plan shares ≡ true → AllPairs (λ one o
 pairs [] plan = λ i j d below inside. absurd (omega (arith, inside))
 pairs (share ∷ shares) plan =
     let parts = and_parts _ _ plan in
-    AllPairs-cons (λ one other. go_together one other ≡ true) share shares (AllPass-from_list_all (go_together share) shares (and_parts _ _ parts.0).1) (pairs shares parts.1)
+    AllPairs-cons (λ one other. go_together one other ≡ true) share shares (AllPass-from_list_all (go_together share) shares (and_parts _ _ parts.0).1)
+    (pairs shares parts.1)
 
 rooms : (shares : List Share) → is_plan shares ≡ true → All (λ share. IsTrue (has_room share.hint share)) shares
 rooms [] plan = All-nil (λ share. IsTrue (has_room share.hint share))
 rooms (share ∷ shares) plan =
     let parts = and_parts _ _ plan in
-    All-cons (λ one. IsTrue (has_room one.hint one)) share shares (and_parts (has_room share.hint share) (list_all (go_together share) shares) parts.0).0 (rooms shares parts.1)
+    All-cons (λ one. IsTrue (has_room one.hint one)) share shares (and_parts (has_room share.hint share) (list_all (go_together share) shares) parts.0).0
+    (rooms shares parts.1)
 
 obeyed : (shares : List Share) → is_plan shares ≡ true → ObeyRules shares
 obeyed shares plan = record {
@@ -64,14 +66,16 @@ plans_obey shares = (obeyed shares, plan_of shares)
 -- ---- two subnets
 
 -- the subnet's place among those of its length
-place_of : (prefix : Net6) (share : Share) → (subnet_of prefix share).ip.number / address_count share.len ≡ network_number prefix / address_count share.len + share.sla
+place_of : (prefix : Net6) (share : Share)
+    → (subnet_of prefix share).ip.number / address_count share.len ≡ network_number prefix / address_count share.len + share.sla
 place_of prefix share = add-mul-div_right (network_number prefix) share.sla (pow_pos (128 - share.len))
 
 none_in_both : (prefix : Net6) (one other : Share) → one.len ≡ other.len → (one.sla ≡ other.sla → ⊥)
     → (ip : Ip6) → IsTrue (is_within ip (subnet_of prefix one)) → IsTrue (is_within ip (subnet_of prefix other)) → ⊥
 none_in_both prefix one other same unlike ip first second =
     let left : ip.number / address_count one.len ≡ network_number prefix / address_count one.len + one.sla = eqb-true _ _ first ∙ place_of prefix one in
-    let right : ip.number / address_count other.len ≡ network_number prefix / address_count other.len + other.sla = eqb-true _ _ second ∙ place_of prefix other in
+    let right : ip.number / address_count other.len ≡ network_number prefix / address_count other.len + other.sla =
+    eqb-true _ _ second ∙ place_of prefix other in
     let counts : address_count one.len ≡ address_count other.len = ap address_count same in
     let lefts : ip.number / address_count one.len ≡ ip.number / address_count other.len = ap (λ n. ip.number / n) counts in
     let bases : network_number prefix / address_count one.len ≡ network_number prefix / address_count other.len = ap (λ n. network_number prefix / n) counts in

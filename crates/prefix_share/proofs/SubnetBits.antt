@@ -79,7 +79,8 @@ within prefix share most room ip inside =
 -- ---- the number as it is computed
 
 -- the SLA id's bits are not shifted out
-pub shift_kept : (prefix_len : ℕ) (share : Share) → share.len ≤ 128 → Room prefix_len share → share.sla * 2 ^ (128 - share.len) % 2 ^ 128 ≡ share.sla * 2 ^ (128 - share.len)
+pub shift_kept : (prefix_len : ℕ) (share : Share) → share.len ≤ 128 → Room prefix_len share
+    → share.sla * 2 ^ (128 - share.len) % 2 ^ 128 ≡ share.sla * 2 ^ (128 - share.len)
 shift_kept prefix_len share most room =
     let below = shifted_below share.sla prefix_len share.len room.longer most room.small in
     let fewer : 128 - prefix_len ≤ 128 = omega arith in

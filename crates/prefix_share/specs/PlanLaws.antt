@@ -32,4 +32,5 @@ FitThePrefix = (prefix : Net6) (shares : List Share) → IsTrue (is_plan shares)
 
 -- shares have one first fault at most
 abbrev pub OneFault : Type 0
-OneFault = (shares : List Share) (one other : ShareFault) → IsFirstFault shares one → IsFirstFault shares other → one ≡ other
+OneFault =
+    (shares : List Share) (one other : ShareFault) → IsFirstFault shares one → IsFirstFault shares other → one ≡ other

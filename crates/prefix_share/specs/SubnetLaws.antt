@@ -12,7 +12,9 @@ pub record HasBits (prefix : Net6) (share : Share) (net : Net6) : Type 0 where
   pub rest : net.ip.number % address_count share.len ≡ 0
 
 abbrev pub HaveTheirBits : Type 0
-HaveTheirBits = (prefix : Net6) (share : Share) → FitsShare share → IfSome (subnet_in prefix share) (λ net. HasBits prefix share net)
+HaveTheirBits =
+    (prefix : Net6) (share : Share) → FitsShare share
+    → IfSome (subnet_in prefix share) (λ net. HasBits prefix share net)
 
 -- each address of a subnet is one of the prefix
 abbrev pub LieWithin : Type 0

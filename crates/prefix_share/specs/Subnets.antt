@@ -1,4 +1,5 @@
--- The subnets of a delegated prefix: bits that are added to the prefix make unique, longer prefixes (RFC 3633, section 12.1).
+-- The subnets of a delegated prefix: bits that are added to the prefix make unique, longer prefixes (RFC 3633, section
+-- 12.1).
 use Rattle.std.specs.Prelude.{ℕ, ◌+◌, ◌-◌, ◌*◌, ◌/◌, ◌%◌, ◌^◌, ◌≤◌, Bool, ◌==◌, nat_le, nat_lt, ◌&&◌, Option, Some, None, if◌then◌else◌}
 use Rattle.net_types.specs.declared.address.Ip6.{Ip6}
 use Rattle.net_types.specs.declared.address.Net6.{Net6}
@@ -29,7 +30,8 @@ has_room prefix_len share = nat_le prefix_len share.len && nat_lt share.sla (2 ^
 
 -- the prefix's bits, with the SLA id in the bits that end at the share's length
 abbrev pub subnet_of : Net6 → Share → Net6
-subnet_of prefix share = record { ip = record { number = network_number prefix + share.sla * address_count share.len }; len = share.len }
+subnet_of prefix share =
+    record { ip = record { number = network_number prefix + share.sla * address_count share.len }; len = share.len }
 
 abbrev pub subnet_in : Net6 → Share → Option Net6
 subnet_in prefix share = if has_room prefix.len share then Some (subnet_of prefix share) else None

@@ -6,7 +6,43 @@ use Rattle.progress.specs.OneLife.{OneLifeGoesWell}
 pub one_life_goes_well : OneLifeGoesWell
 one_life_goes_well = record {
   arms = refl;
-  prompt = (record { onward = lit≤ tt; in_time = tt }, (record { onward = lit≤ tt; in_time = lit≤ tt }, (record { onward = lit≤ tt; in_time = lit≤ tt }, (record { onward = lit≤ tt; in_time = lit≤ tt }, (record { onward = lit≤ tt; in_time = lit≤ tt }, (record { onward = lit≤ tt; in_time = lit≤ tt }, (record { onward = lit≤ tt; in_time = lit≤ tt }, (record { onward = lit≤ tt; in_time = lit≤ tt }, tt))))))));
-  fair = (record { taken = tt; up = tt; alone = tt }, (record { taken = tt; up = tt; alone = tt }, (record { taken = tt; up = tt; alone = tt }, (record { taken = tt; up = tt; alone = tt }, (record { taken = tt; up = tt; alone = refl }, (record { taken = tt; up = tt; alone = tt }, (record { taken = tt; up = tt; alone = tt }, (record { taken = tt; up = tt; alone = tt }, tt))))))));
+  prompt = (
+    record { onward = lit≤ tt; in_time = tt },
+    (
+      record { onward = lit≤ tt; in_time = lit≤ tt },
+      (
+        record { onward = lit≤ tt; in_time = lit≤ tt },
+        (
+          record { onward = lit≤ tt; in_time = lit≤ tt },
+          (
+            record { onward = lit≤ tt; in_time = lit≤ tt },
+            (
+              record { onward = lit≤ tt; in_time = lit≤ tt },
+              (record { onward = lit≤ tt; in_time = lit≤ tt }, (record { onward = lit≤ tt; in_time = lit≤ tt }, tt)),
+            ),
+          ),
+        ),
+      ),
+    ),
+  );
+  fair = (
+    record { taken = tt; up = tt; alone = tt },
+    (
+      record { taken = tt; up = tt; alone = tt },
+      (
+        record { taken = tt; up = tt; alone = tt },
+        (
+          record { taken = tt; up = tt; alone = tt },
+          (
+            record { taken = tt; up = tt; alone = refl },
+            (
+              record { taken = tt; up = tt; alone = tt },
+              (record { taken = tt; up = tt; alone = tt }, (record { taken = tt; up = tt; alone = tt }, tt)),
+            ),
+          ),
+        ),
+      ),
+    ),
+  );
   past_end = lit≤ tt;
 }

@@ -79,7 +79,8 @@ module _ (managed : Managed) (choosing : Chooses managed) (own : List Mac) (at s
   index : ℕ
   index = managed.spec.index.number
 
-  module _ (settings : SettingsContent) (last : Option ℕ) (kept : Option LeaseContent) (fresh : List ValueContent) (ll : LinkLocal) (dhcp6 : clients6.ClientContent) where
+  module _ (settings : SettingsContent) (last : Option ℕ) (kept : Option LeaseContent) (fresh : List ValueContent) (ll : LinkLocal)
+      (dhcp6 : clients6.ClientContent) where
     abbrev here : Iface
     here = shaped managed settings last kept fresh ll dhcp6
 
@@ -112,7 +113,8 @@ module _ (managed : Managed) (choosing : Chooses managed) (own : List Mac) (at s
     begin6 : (l : LinkLocal) → Stands managed l (begin_dhcp6 at salt (shaped managed settings last kept fresh l dhcp6)).iface
     begin6 l =
         gated (λ (step : IfaceStep). Stands managed l step.iface) (runs_dhcp6 managed.conf)
-        (dhcp6_step (shaped managed settings last kept fresh l dhcp6) (carrier_turned carrier6.Up at salt dhcp6)) (silent (shaped managed settings last kept fresh l dhcp6))
+        (dhcp6_step (shaped managed settings last kept fresh l dhcp6) (carrier_turned carrier6.Up at salt dhcp6))
+        (silent (shaped managed settings last kept fresh l dhcp6))
         (record { settings = settings; last = last; kept = kept; fresh = fresh; dhcp6 = (carrier_turned carrier6.Up at salt dhcp6).client; is = refl })
         (record { settings = settings; last = last; kept = kept; fresh = fresh; dhcp6 = dhcp6; is = refl })
 
@@ -149,7 +151,8 @@ module _ (managed : Managed) (choosing : Chooses managed) (own : List Mac) (at s
         gone h = cc
     taken (Duplicate other addr) bytes on =
         split (managed.spec.index.number == other)
-        (λ mine. rw mine (record { settings = settings; last = last; kept = kept; fresh = fresh; dhcp6 = (contested_turned addr at salt dhcp6).client; is = refl }))
+        (λ mine. rw mine
+        (record { settings = settings; last = last; kept = kept; fresh = fresh; dhcp6 = (contested_turned addr at salt dhcp6).client; is = refl }))
         (λ alien. rw alien itself)
     taken (Release other) bytes on = rw on itself
     taken (Rebind other) bytes on =

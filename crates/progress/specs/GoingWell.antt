@@ -41,8 +41,8 @@ abbrev pub CarrierStays : LlEvent → Type 0
 CarrierStays (Drop at) = ⊥
 CarrierStays _ = Unit {0}
 
--- Whether a packet contests an address: while it is probed, another host's use or probe of it (RFC 5227, section 2.1.1);
--- later its use alone (section 2.4).
+-- Whether a packet contests an address: while it is probed, another host's use or probe of it (RFC 5227, section
+-- 2.1.1); later its use alone (section 2.4).
 abbrev pub contests_in : List Mac → Ip4 → Phase → ArpView → Bool
 contests_in own addr (Probing sent due) arp = is_contested own addr arp
 contests_in own addr (Announcing due last) arp = is_used own addr arp

@@ -1,4 +1,5 @@
--- That an interface without DHCPv4 holds a link-local address in time, and from then on (RFC 3927). Moments are in milliseconds.
+-- That an interface without DHCPv4 holds a link-local address in time, and from then on (RFC 3927). Moments are in
+-- milliseconds.
 use Rattle.std.specs.Prelude.{◌≡◌, ℕ, ◌+◌, ◌<◌, ◌≤◌, true, false, List, ◌++◌, Some}
 use Rattle.net_types.specs.declared.address.Ip4.{Ip4}
 use Rattle.net_types.specs.declared.address.Mac.{Mac}
@@ -24,7 +25,8 @@ pub record ChoosesAtOnce (up : ℕ) (b : Beginning) : Type 0 where
   pub no_dhcp4 : runs_dhcp4 b.managed.conf ≡ false
   pub chooses : chooses_local b.managed.conf ≡ true
 
--- After the opening, or some turn that came by the moment `end`, an address is held, and it still is after the last turn.
+-- After the opening, or some turn that came by the moment `end`, an address is held, and it still is after the last
+-- turn.
 pub record HeldByTurns (own : List Mac) (iface : Iface) (start : ℕ) (turns : List Turn) (end : ℕ) : Type 0 where
   pub later : List Turn
   pub earlier : List Turn

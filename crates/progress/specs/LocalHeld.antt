@@ -10,8 +10,8 @@ use Rattle.ipv4ll.specs.Table.{held_in}
 use Rattle.ipv4ll.specs.History.{LlEvent, Arm, ll_after, arms_at}
 use Rattle.progress.specs.GoingWell.{moment_in, Prompt, Fair}
 
--- The longest that probing takes (RFC 3927, sections 2.2.1 and 9): the wait before the first probe, the gaps from each to the
--- next, and the quiet after the last.
+-- The longest that probing takes (RFC 3927, sections 2.2.1 and 9): the wait before the first probe, the gaps from each
+-- to the next, and the quiet after the last.
 abbrev pub longest_probing : ℕ
 longest_probing = PROBE_WAIT + (PROBE_NUM - 1) * PROBE_MAX + ANNOUNCE_WAIT
 
@@ -25,8 +25,8 @@ pub record HeldSince (own : List Mac) (iface : IfIndex) (past : List LlEvent) (e
   pub gained : held_in (ll_after own iface earlier).state ≡ Some addr
   pub kept : held_in (ll_after own iface past).state ≡ Some addr
 
--- A machine that was off is armed for a moment that isn't over, to choose an address then. By the longest probing after that
--- moment an address is held, and from then on.
+-- A machine that was off is armed for a moment that isn't over, to choose an address then. By the longest probing after
+-- that moment an address is held, and from then on.
 abbrev pub HeldInTime : Type 0
 HeldInTime = (own : List Mac) (iface : IfIndex) (later earlier : List LlEvent) (at due : ℕ) (waits : Waits)
     → let armed : List LlEvent = Arm at due waits Choose ∷ earlier in

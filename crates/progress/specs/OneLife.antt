@@ -31,7 +31,8 @@ arming = Arm 1000 1000 ForNothing Choose ∷ []
 -- The choice; three probes, with a packet of another host between; the gain, and the announcements; and a minute later.
 abbrev pub one_life : List LlEvent
 one_life =
-    Tick 65000 0 ∷ Tick 7006 0 ∷ Tick 5006 0 ∷ Tick 3006 0 ∷ Heard other_request 2500 0 ∷ Tick 2004 0 ∷ Tick 1002 0 ∷ Tick 1000 0 ∷ []
+    Tick 65000 0 ∷ Tick 7006 0 ∷ Tick 5006 0 ∷ Tick 3006 0 ∷ Heard other_request 2500 0 ∷ Tick 2004 0 ∷ Tick 1002 0
+    ∷ Tick 1000 0 ∷ []
 
 pub record GoesWell (own : List Mac) (iface : IfIndex) (later : List LlEvent) : Type 0 where
   pub arms : arms_at (ll_after own iface []).state (Arm 1000 1000 ForNothing Choose) ≡ true

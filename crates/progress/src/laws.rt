@@ -5,9 +5,9 @@ ghost use Rattle.progress.specs.InterfaceHeld.{InterfaceHoldsInTime};
 ghost use Rattle.progress.specs.LocalHeld.{HeldInTime, StaysHeld, longest_probing};
 ghost use Rattle.progress.specs.OneLife.{OneLifeGoesWell};
 
-/// Law of a link-local machine, over every list of its events. Where each comes no later than was asked for, the link takes
-/// the frames, the carrier stays and nobody contests the choice, an address is held seven seconds after the moment for
-/// which it was armed, or sooner (RFC 3927, sections 2.2.1 and 9); and what is held stays so (section 2.5).
+/// Law of a link-local machine, over every list of its events. Where each comes no later than was asked for, the link
+/// takes the frames, the carrier stays and nobody contests the choice, an address is held seven seconds after the
+/// moment for which it was armed, or sooner (RFC 3927, sections 2.2.1 and 9); and what is held stays so (section 2.5).
 pub fn link_local_is_held()
     ensures held { HeldInTime }
     ensures stays { StaysHeld }
@@ -15,8 +15,9 @@ pub fn link_local_is_held()
 {}
 
 /// Law of an interface's run, over every setting without DHCPv4 that lets it choose an address, every salt and list of
-/// turns, from an opening with carrier on. Where turns come no later than asked for, the link takes the frames, the carrier
-/// stays and nobody contests the choice, it holds an address seven seconds after its opening, or sooner, and from then on.
+/// turns, from an opening with carrier on. Where turns come no later than asked for, the link takes the frames, the
+/// carrier stays and nobody contests the choice, it holds an address seven seconds after its opening, or sooner, and
+/// from then on.
 pub fn interfaces_hold_link_local()
     ensures { InterfaceHoldsInTime }
 {}

@@ -13,7 +13,8 @@ use Rattle.replay_text.specs.Blocks.{parts_of}
 -- ---- parts
 
 no_feed : (text : List ℕ) → Lacks 10 text → All (λ b. eqb b 10 ≡ false) text
-no_feed text free = All-weaker (λ b. not (eqb b 10) ≡ true) (λ b. eqb b 10 ≡ false) (λ b h. not-true _ h) text (AllPass-from_list_all (λ b. not (eqb b 10)) text free)
+no_feed text free =
+    All-weaker (λ b. not (eqb b 10) ≡ true) (λ b. eqb b 10 ≡ false) (λ b h. not-true _ h) text (AllPass-from_list_all (λ b. not (eqb b 10)) text free)
 
 -- a line in front
 pub parts_line : (line rest : List ℕ) → Lacks 10 line → parts_of (line ++ 10 ∷ rest) ≡ line ∷ parts_of rest
@@ -38,10 +39,13 @@ parts_lack (x ∷ xs) =
 -- ---- lines of one kind
 
 -- the parts of lines that are written one after another
-pub parts_block : {X : Type 0} (text_of line_of : X → List ℕ) (xs : List X) (rest : List ℕ) → AllByRecursion (λ x. (text_of x ≡ line_of x) × Lacks 10 (line_of x)) xs → parts_of (flat_map (λ x. ended (text_of x)) xs ++ rest) ≡ map line_of xs ++ parts_of rest
+pub parts_block : {X : Type 0} (text_of line_of : X → List ℕ) (xs : List X) (rest : List ℕ)
+    → AllByRecursion (λ x. (text_of x ≡ line_of x) × Lacks 10 (line_of x)) xs
+    → parts_of (flat_map (λ x. ended (text_of x)) xs ++ rest) ≡ map line_of xs ++ parts_of rest
 parts_block text_of line_of [] rest fits = refl
 parts_block text_of line_of (x ∷ xs) rest fits =
     let regrouped : flat_map (λ y. ended (text_of y)) (x ∷ xs) ++ rest ≡ text_of x ++ 10 ∷ (flat_map (λ y. ended (text_of y)) xs ++ rest) = simp append_assoc in
-    let spelled : text_of x ++ 10 ∷ (flat_map (λ y. ended (text_of y)) xs ++ rest) ≡ line_of x ++ 10 ∷ (flat_map (λ y. ended (text_of y)) xs ++ rest) = ap (λ t. t ++ 10 ∷ (flat_map (λ y. ended (text_of y)) xs ++ rest)) fits.0.0 in
+    let spelled : text_of x ++ 10 ∷ (flat_map (λ y. ended (text_of y)) xs ++ rest) ≡ line_of x ++ 10 ∷ (flat_map (λ y. ended (text_of y)) xs ++ rest) =
+    ap (λ t. t ++ 10 ∷ (flat_map (λ y. ended (text_of y)) xs ++ rest)) fits.0.0 in
     ap parts_of (regrouped ∙ spelled) ∙ parts_line (line_of x) (flat_map (λ y. ended (text_of y)) xs ++ rest) fits.0.1
     ∙ ap (λ ps. line_of x ∷ ps) (parts_block text_of line_of xs rest fits.1)

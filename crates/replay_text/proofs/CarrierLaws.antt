@@ -111,10 +111,12 @@ ups_more (suc n) (suc total) first u le small =
     elim (parity u) [
       | even v is ↦
           let less : v < 2 ^ n = omega arith in
-          ap (ups first (suc total)) is ∙ ups_even first total v ∙ ups_more n total (first + 1) v (omega arith) less ∙ sym (ups_even first n v) ∙ ap (ups first (suc n)) (sym is)
+          ap (ups first (suc total)) is ∙ ups_even first total v ∙ ups_more n total (first + 1) v (omega arith) less ∙ sym (ups_even first n v)
+          ∙ ap (ups first (suc n)) (sym is)
       | odd v is ↦
           let less : v < 2 ^ n = omega arith in
-          ap (ups first (suc total)) is ∙ ups_odd first total v ∙ ap (λ r. first ∷ r) (ups_more n total (first + 1) v (omega arith) less) ∙ sym (ups_odd first n v) ∙ ap (ups first (suc n)) (sym is)
+          ap (ups first (suc total)) is ∙ ups_odd first total v ∙ ap (λ r. first ∷ r) (ups_more n total (first + 1) v (omega arith) less)
+          ∙ sym (ups_odd first n v) ∙ ap (ups first (suc n)) (sym is)
     ]
 
 -- the list of a line, by bits
@@ -151,7 +153,10 @@ bits_sound (suc n) first [] u e =
     positive zero = omega arith
     positive (suc n) = let h = positive n in omega arith
 bits_sound (suc n) first (l ∷ ls) u e =
-    elim (eqb l.iface.number first) as (λ b. eqb l.iface.number first ≡ b → cond b (option_map (λ u. 2 * u + 1) (bits_at (first + 1) n ls)) (option_map (λ u. 2 * u) (bits_at (first + 1) n (l ∷ ls))) ≡ Some u → (map number_of (l ∷ ls) ≡ ups first (suc n) u) × (u < 2 ^ suc n)) [
+    elim (eqb l.iface.number first) as
+    (λ b. eqb l.iface.number first ≡ b
+    → cond b (option_map (λ u. 2 * u + 1) (bits_at (first + 1) n ls)) (option_map (λ u. 2 * u) (bits_at (first + 1) n (l ∷ ls))) ≡ Some u
+    → (map number_of (l ∷ ls) ≡ ups first (suc n) u) × (u < 2 ^ suc n)) [
       | true ↦ λ t q.
           let m = mapped (λ u. 2 * u + 1) (bits_at (first + 1) n ls) u q in
           let s = bits_sound n (first + 1) ls m.value m.was in
@@ -167,13 +172,15 @@ bits_sound (suc n) first (l ∷ ls) u e =
           (s.0 ∙ sym (ups_even first n m.value) ∙ ap (ups first (suc n)) is, omega arith)
     ] refl e
 
-even_whole : (first n u v : ℕ) (l : Listed) (ls : List Listed) → u ≡ 2 * v → ups (first + 1) n v ≡ map number_of (l ∷ ls) → bits_at (first + 1) n (l ∷ ls) ≡ Some v → bits_at first (suc n) (l ∷ ls) ≡ Some u
+even_whole : (first n u v : ℕ) (l : Listed) (ls : List Listed) → u ≡ 2 * v → ups (first + 1) n v ≡ map number_of (l ∷ ls)
+    → bits_at (first + 1) n (l ∷ ls) ≡ Some v → bits_at first (suc n) (l ∷ ls) ≡ Some u
 even_whole first n u v l ls is listed rest =
     let above : first + 1 ≤ l.iface.number = ups_above n (first + 1) v l.iface.number (map number_of ls) listed in
     let other : eqb l.iface.number first ≡ false = ne_eqb _ _ (λ same. let never : l.iface.number ≡ first = same in omega arith) in
     rw (other, rest) (ap (λ x. Some x) (sym is))
 
-odd_whole : (first n u v : ℕ) (l : Listed) (ls : List Listed) → u ≡ 2 * v + 1 → l.iface.number ≡ first → bits_at (first + 1) n ls ≡ Some v → bits_at first (suc n) (l ∷ ls) ≡ Some u
+odd_whole : (first n u v : ℕ) (l : Listed) (ls : List Listed) → u ≡ 2 * v + 1 → l.iface.number ≡ first → bits_at (first + 1) n ls ≡ Some v
+    → bits_at first (suc n) (l ∷ ls) ≡ Some u
 odd_whole first n u v l ls is same rest = rw (eq-eqb _ _ same, rest) (ap (λ x. Some x) (sym is))
 
 bits_whole : (n first u : ℕ) (ls : List Listed) → u < 2 ^ n → map number_of ls ≡ ups first n u → bits_at first n ls ≡ Some u
@@ -240,7 +247,8 @@ some_text (l ∷ ls) some = ap (join_with_byte 44) (same (l ∷ ls))
     same [] = refl
     same (l ∷ ls) = ap (λ r. decimal l.iface.number ∷ r) (same ls)
 
-listed_sound : (text : List ℕ) (ls : List Listed) → list_of_listed_at text ≡ Some ls → (text ≡ lines.list_text (listed_numbers ls)) × AllByRecursion FitsListed ls
+listed_sound : (text : List ℕ) (ls : List Listed) → list_of_listed_at text ≡ Some ls
+    → (text ≡ lines.list_text (listed_numbers ls)) × AllByRecursion FitsListed ls
 unfolding list_of_listed_at
 listed_sound text ls e =
     elim (bytes_eq text (codes "-")) as (λ b. bytes_eq text (codes "-") ≡ b → cond b (Some []) (list_at 44 listed_at text) ≡ Some ls → (text ≡ lines.list_text (listed_numbers ls)) × AllByRecursion FitsListed ls) [
@@ -270,7 +278,9 @@ ups_fit : (n first u : ℕ) → 1 ≤ first → first + n ≤ 65 → AllByRecurs
 unfolding ups
 ups_fit zero first u some few = tt
 ups_fit (suc n) first u some few =
-    elim (eqb (u % 2) 1) as (λ b. AllByRecursion FitsListed (map (λ i. record { iface = record { number = i } }) (cond b (first ∷ ups (first + 1) n (u / 2)) (ups (first + 1) n (u / 2))))) [
+    elim (eqb (u % 2) 1) as
+    (λ b. AllByRecursion FitsListed
+    (map (λ i. record { iface = record { number = i } }) (cond b (first ∷ ups (first + 1) n (u / 2)) (ups (first + 1) n (u / 2))))) [
       | true ↦ ((some, omega arith), ups_fit n (first + 1) (u / 2) (omega arith) (omega arith))
       | false ↦ ups_fit n (first + 1) (u / 2) (omega arith) (omega arith)
     ]
@@ -332,7 +342,8 @@ join_printable [] fits = refl
 join_printable (l ∷ []) fits = let within : l.iface.number ≤ 64 = fits.0.1 in decimal_printable l.iface.number (omega arith)
 join_printable (l ∷ next ∷ ls) fits =
     let within : l.iface.number ≤ 64 = fits.0.1 in
-    only-append is_printable (decimal l.iface.number) (44 ∷ join_with_byte 44 (map decimal (listed_numbers (next ∷ ls)))) (decimal_printable l.iface.number (omega arith))
+    only-append is_printable (decimal l.iface.number) (44 ∷ join_with_byte 44 (map decimal (listed_numbers (next ∷ ls))))
+    (decimal_printable l.iface.number (omega arith))
     (only-append is_printable (codes ",") (join_with_byte 44 (map decimal (listed_numbers (next ∷ ls)))) refl (join_printable (next ∷ ls) fits.1))
 
 list_printable : (ls : List Listed) → AllByRecursion FitsListed ls → IsPrintable (lines.list_text (listed_numbers ls))

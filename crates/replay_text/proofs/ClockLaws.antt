@@ -24,7 +24,8 @@ OnlyLast moment (wake ∷ next ∷ wakes) = (wake.at < moment) × OnlyLast momen
 pairs_from : (moment : ℕ) (wakes : List Wake) → OnlyLast moment wakes → AllPairs (Before moment) wakes
 pairs_from moment [] only = λ i j d below within. absurd (omega arith)
 pairs_from moment (wake ∷ []) only = λ i j d below within. absurd (omega arith)
-pairs_from moment (wake ∷ next ∷ wakes) only = AllPairs-cons (Before moment) wake (next ∷ wakes) (λ k d within. only.0) (pairs_from moment (next ∷ wakes) only.1)
+pairs_from moment (wake ∷ next ∷ wakes) only =
+    AllPairs-cons (Before moment) wake (next ∷ wakes) (λ k d within. only.0) (pairs_from moment (next ∷ wakes) only.1)
 
 pairs_later : (moment : ℕ) (wake : Wake) (wakes : List Wake) → AllPairs (Before moment) (wake ∷ wakes) → AllPairs (Before moment) wakes
 pairs_later moment wake wakes pairs = λ i j d below within. pairs (suc i) (suc j) d (omega arith) (omega arith)
@@ -32,7 +33,8 @@ pairs_later moment wake wakes pairs = λ i j d below within. pairs (suc i) (suc 
 pairs_to : (moment : ℕ) (wakes : List Wake) → AllPairs (Before moment) wakes → OnlyLast moment wakes
 pairs_to moment [] pairs = tt
 pairs_to moment (wake ∷ []) pairs = tt
-pairs_to moment (wake ∷ next ∷ wakes) pairs = (pairs 0 1 wake (omega arith) (omega arith), pairs_to moment (next ∷ wakes) (pairs_later moment wake (next ∷ wakes) pairs))
+pairs_to moment (wake ∷ next ∷ wakes) pairs =
+    (pairs 0 1 wake (omega arith) (omega arith), pairs_to moment (next ∷ wakes) (pairs_later moment wake (next ∷ wakes) pairs))
 
 -- ---- after a stop
 
@@ -48,13 +50,15 @@ going_on stop now e = grind (arith, nat_tests)
 still_going : (stop now : ℕ) → now < stop + time_after_stop → not (leb time_after_stop (now - stop)) ≡ true
 still_going stop now small = grind (arith, nat_tests)
 
-stopped_sound : (turns : List Given) (stop : ℕ) (last : Wake) → is_in_time (stopped stop last.at) turns ≡ true → OnlyLast (stop + time_after_stop) (last ∷ wakes_seen last.at turns)
+stopped_sound : (turns : List Given) (stop : ℕ) (last : Wake) → is_in_time (stopped stop last.at) turns ≡ true
+    → OnlyLast (stop + time_after_stop) (last ∷ wakes_seen last.at turns)
 stopped_sound [] stop last e = tt
 stopped_sound (given ∷ turns) stop last e =
     let parts = and_parts (not (is_past last.at (Some stop))) _ e in
     (going_on stop last.at parts.0, stopped_sound turns stop (seen last.at given.wake) parts.1)
 
-stopped_whole : (turns : List Given) (stop : ℕ) (last : Wake) → OnlyLast (stop + time_after_stop) (last ∷ wakes_seen last.at turns) → is_in_time (stopped stop last.at) turns ≡ true
+stopped_whole : (turns : List Given) (stop : ℕ) (last : Wake) → OnlyLast (stop + time_after_stop) (last ∷ wakes_seen last.at turns)
+    → is_in_time (stopped stop last.at) turns ≡ true
 stopped_whole [] stop last only = refl
 stopped_whole (given ∷ turns) stop last only =
     and_from _ _ (still_going stop last.at only.0) (stopped_whole turns stop (seen last.at given.wake) only.1)
@@ -73,7 +77,8 @@ stop_later (given ∷ turns) now = of_test (stop_later turns (max now given.wake
     later None fits = tt
     later (Some stop) fits = omega arith
 
-    of_test : IfSome (stop_moment (wakes_seen (max now given.wake.at) turns)) (λ stop. max now given.wake.at ≤ stop) → (here : Bool) → IfSome (first_stop here (seen now given.wake) (wakes_seen (max now given.wake.at) turns)) (λ stop. now ≤ stop)
+    of_test : IfSome (stop_moment (wakes_seen (max now given.wake.at) turns)) (λ stop. max now given.wake.at ≤ stop) → (here : Bool)
+        → IfSome (first_stop here (seen now given.wake) (wakes_seen (max now given.wake.at) turns)) (λ stop. now ≤ stop)
     of_test others true = omega arith
     of_test others false = later (stop_moment (wakes_seen (max now given.wake.at) turns)) others
 
@@ -95,7 +100,9 @@ in_time_sound (given ∷ turns) now e = of_test (in_time_sound turns (max now gi
     wake : Wake
     wake = seen now given.wake
 
-    of_test : (is_in_time (clock_at wake.at) turns ≡ true → EndsWhenOver (wakes_seen wake.at turns)) → (here : Bool) → is_in_time (record { now = wake.at; stop = cond here (Some wake.at) None }) turns ≡ true → AreInTime (wake ∷ wakes_seen wake.at turns) (first_stop here wake (wakes_seen wake.at turns))
+    of_test : (is_in_time (clock_at wake.at) turns ≡ true → EndsWhenOver (wakes_seen wake.at turns)) → (here : Bool)
+        → is_in_time (record { now = wake.at; stop = cond here (Some wake.at) None }) turns ≡ true
+        → AreInTime (wake ∷ wakes_seen wake.at turns) (first_stop here wake (wakes_seen wake.at turns))
     of_test others true q = pairs_from (wake.at + time_after_stop) (wake ∷ wakes_seen wake.at turns) (stopped_sound turns wake.at wake q)
     of_test others false q =
         earlier_too wake (wakes_seen wake.at turns) (stop_moment (wakes_seen wake.at turns)) (stop_later turns wake.at) (others q)
@@ -107,6 +114,8 @@ in_time_whole (given ∷ turns) now over = of_test (in_time_whole turns (max now
     wake : Wake
     wake = seen now given.wake
 
-    of_test : (EndsWhenOver (wakes_seen wake.at turns) → is_in_time (clock_at wake.at) turns ≡ true) → (here : Bool) → AreInTime (wake ∷ wakes_seen wake.at turns) (first_stop here wake (wakes_seen wake.at turns)) → is_in_time (record { now = wake.at; stop = cond here (Some wake.at) None }) turns ≡ true
+    of_test : (EndsWhenOver (wakes_seen wake.at turns) → is_in_time (clock_at wake.at) turns ≡ true) → (here : Bool)
+        → AreInTime (wake ∷ wakes_seen wake.at turns) (first_stop here wake (wakes_seen wake.at turns))
+        → is_in_time (record { now = wake.at; stop = cond here (Some wake.at) None }) turns ≡ true
     of_test others true pairs = stopped_whole turns wake.at wake (pairs_to (wake.at + time_after_stop) (wake ∷ wakes_seen wake.at turns) pairs)
     of_test others false pairs = others (without_first wake (wakes_seen wake.at turns) (stop_moment (wakes_seen wake.at turns)) pairs)

@@ -30,5 +30,7 @@ map_same (text ∷ texts) = ap (λ ts. text ∷ ts) (map_same texts)
 pub conf_lines_of : (texts : List (List ℕ)) → AllByRecursion (Lacks 10) texts → conf_lines (flat_map ended texts) ≡ texts
 unfolding conf_lines
 conf_lines_of texts free =
-    let parts : parts_of (flat_map ended texts) ≡ texts ++ [] ∷ [] = ap parts_of (sym (append-nil (flat_map ended texts))) ∙ parts_block conf_words conf_words texts [] (each_spelled texts free) ∙ ap (λ ts. ts ++ [] ∷ []) (map_same texts) in
+    let parts : parts_of (flat_map ended texts) ≡ texts ++ [] ∷ [] =
+    ap parts_of (sym (append-nil (flat_map ended texts))) ∙ parts_block conf_words conf_words texts [] (each_spelled texts free)
+    ∙ ap (λ ts. ts ++ [] ∷ []) (map_same texts) in
     ap lines_within parts ∙ within_last texts

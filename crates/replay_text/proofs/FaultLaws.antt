@@ -34,7 +34,8 @@ known_is : (read : LinesRead) (lines : List Line) (line : Line) → AfterLines r
 known_is read lines line after = subst (λ ls. known_after ls line ≡ word_at line) (sym after.are) refl
 
 -- a known word, by its place
-known_bad : (read : LinesRead) (lines : List Line) (line : Line) → run step lines None ≡ Some (Some read) → AfterLines read lines → is_text line ≡ true → (known : Known) → word_at line ≡ Some known
+known_bad : (read : LinesRead) (lines : List Line) (line : Line) → run step lines None ≡ Some (Some read) → AfterLines read lines → is_text line ≡ true
+    → (known : Known) → word_at line ≡ Some known
     → (place : Bool) → may_come read known.0 ≡ place → IsBadFor lines line (cond place causes.Form causes.Order)
 known_bad read lines line runs after text known word false place = record {
   known = known;
@@ -49,7 +50,8 @@ known_bad read lines line runs after text known word true place = record {
   place = in_place read lines known.0 after place;
 }
 
-word_bad : (read : LinesRead) (lines : List Line) (line : Line) → run step lines None ≡ Some (Some read) → AfterLines read lines → is_text line ≡ true → (o : Option Known) → word_at line ≡ o → IsBadFor lines line (known_cause read o)
+word_bad : (read : LinesRead) (lines : List Line) (line : Line) → run step lines None ≡ Some (Some read) → AfterLines read lines → is_text line ≡ true
+    → (o : Option Known) → word_at line ≡ o → IsBadFor lines line (known_cause read o)
 word_bad read lines line runs after text None word = (text, known_is read lines line after ∙ word)
 word_bad read lines line runs after text (Some known) word =
     known_bad read lines line runs after text known word (may_come read known.0) refl
@@ -58,11 +60,13 @@ line_bad : (state : Option LinesRead) (lines : List Line) (line : Line) → Afte
 line_bad None lines line after text = subst (λ ls. IsBadFor ls line causes.Word) (sym after.read) (text, refl)
 line_bad (Some read) lines line after text = word_bad read lines line after.runs after.read text (word_at line) refl
 
-text_bad : (state : Option LinesRead) (lines : List Line) (line : Line) → After state lines → (text : Bool) → is_text line ≡ text → IsBadFor lines line (cond text (line_cause state line) causes.NotText)
+text_bad : (state : Option LinesRead) (lines : List Line) (line : Line) → After state lines → (text : Bool) → is_text line ≡ text
+    → IsBadFor lines line (cond text (line_cause state line) causes.NotText)
 text_bad state lines line after true text = line_bad state lines line after text
 text_bad state lines line after false text = text
 
-tells : (state : Option LinesRead) (lines : List Line) (front : Front) → After state lines → StopsAt step given state front → Why lines front (cause_of state front)
+tells : (state : Option LinesRead) (lines : List Line) (front : Front) → After state lines → StopsAt step given state front
+    → Why lines front (cause_of state front)
 tells state lines (Whole line) after stops = text_bad state lines line after (is_text line) refl
 tells state lines (Unended rest) after stops = refl
 tells None lines End after stops = subst (λ ls. causes.Word ≡ end_cause ls) (sym after.read) refl
@@ -126,16 +130,22 @@ abbrev Parted : List Line → List ℕ → List Line → List ℕ → Type 0
 Parted one rest other tail = ((one ≡ other) × (rest ≡ tail)) ⊎ (Further one rest other tail ⊎ Further other tail one rest)
 
 -- a line in front of both
-both_after : (line : Line) (one : List Line) (rest : List ℕ) (other : List Line) (tail : List ℕ) → Parted one rest other tail → Parted (line ∷ one) rest (line ∷ other) tail
+both_after : (line : Line) (one : List Line) (rest : List ℕ) (other : List Line) (tail : List ℕ) → Parted one rest other tail
+    → Parted (line ∷ one) rest (line ∷ other) tail
 both_after line one rest other tail (inl same) = inl (ap (λ ls. line ∷ ls) same.0, same.1)
-both_after line one rest other tail (inr (inl f)) = inr (inl (record { line = f.line; more = f.more; is = ap (λ ls. line ∷ ls) f.is; behind = f.behind; free = f.free }))
-both_after line one rest other tail (inr (inr f)) = inr (inr (record { line = f.line; more = f.more; is = ap (λ ls. line ∷ ls) f.is; behind = f.behind; free = f.free }))
+both_after line one rest other tail (inr (inl f)) =
+    inr (inl (record { line = f.line; more = f.more; is = ap (λ ls. line ∷ ls) f.is; behind = f.behind; free = f.free }))
+both_after line one rest other tail (inr (inr f)) =
+    inr (inr (record { line = f.line; more = f.more; is = ap (λ ls. line ∷ ls) f.is; behind = f.behind; free = f.free }))
 
-first_line : (line : Line) (lines : List Line) (rest : List ℕ) → Lacks 10 line → split_at_byte 10 (lines_text (line ∷ lines) ++ rest) ≡ Some (line, lines_text lines ++ rest)
+first_line : (line : Line) (lines : List Line) (rest : List ℕ) → Lacks 10 line
+    → split_at_byte 10 (lines_text (line ∷ lines) ++ rest) ≡ Some (line, lines_text lines ++ rest)
 first_line line lines rest free =
-    ap (split_at_byte 10) (append_assoc (ended line) (lines_text lines) rest ∙ append_assoc line (10 ∷ []) (lines_text lines ++ rest)) ∙ split_whole 10 line (lines_text lines ++ rest) free
+    ap (split_at_byte 10) (append_assoc (ended line) (lines_text lines) rest ∙ append_assoc line (10 ∷ []) (lines_text lines ++ rest))
+    ∙ split_whole 10 line (lines_text lines ++ rest) free
 
-parted : (one : List Line) (rest : List ℕ) (other : List Line) (tail : List ℕ) → AreLines one → AreLines other → lines_text one ++ rest ≡ lines_text other ++ tail → Parted one rest other tail
+parted : (one : List Line) (rest : List ℕ) (other : List Line) (tail : List ℕ) → AreLines one → AreLines other
+    → lines_text one ++ rest ≡ lines_text other ++ tail → Parted one rest other tail
 parted [] rest [] tail are_one are_other e = inl (refl, e)
 parted [] rest (line ∷ other) tail are_one are_other e = inr (inl (record { line = line; more = other; is = refl; behind = e; free = are_other.0 }))
 parted (line ∷ one) rest [] tail are_one are_other e = inr (inr (record { line = line; more = one; is = refl; behind = sym e; free = are_one.0 }))
@@ -208,7 +218,8 @@ faults_are_one text a b one other =
     by : Parted one.lines one.rest other.lines other.rest → a ≡ b
     by (inl same) =
         let line : a.line ≡ b.line = one.counted ∙ ap (λ (ls : List Line). length ls + 1) same.0 ∙ sym other.counted in
-        let why : Why other.lines (front_in other.rest) a.cause = subst (λ r. Why other.lines (front_in r) a.cause) same.1 (subst (λ ls. Why ls (front_in one.rest) a.cause) same.0 one.why) in
+        let why : Why other.lines (front_in other.rest) a.cause =
+        subst (λ r. Why other.lines (front_in r) a.cause) same.1 (subst (λ ls. Why ls (front_in one.rest) a.cause) same.0 one.why) in
         let cause : a.cause ≡ b.cause = why_one other.lines (front_in other.rest) a.cause b.cause why other.why in
         ap (λ n. record { line = n; cause = a.cause }) line ∙ ap (λ c. record { line = b.line; cause = c }) cause
     by (inr (inl f)) = absurd (further_never text a b one other f)
@@ -231,7 +242,9 @@ run_same lines a b one other =
 
 pub scripts_are_one : (text : List ℕ) (one other : ScriptLines) → IsSpelled SpellsScript text one → IsSpelled SpellsScript text other → one ≡ other
 scripts_are_one text one other a b =
-    by (parted a.lines [] b.lines [] (are (as_read one) a.lines (read_spells one a.lines a.spells)) (are (as_read other) b.lines (read_spells other b.lines b.spells)) (ap (λ t. t ++ []) (sym a.text_is ∙ b.text_is)))
+    by
+    (parted a.lines [] b.lines [] (are (as_read one) a.lines (read_spells one a.lines a.spells))
+    (are (as_read other) b.lines (read_spells other b.lines b.spells)) (ap (λ t. t ++ []) (sym a.text_is ∙ b.text_is)))
   where
     by : Parted a.lines [] b.lines [] → one ≡ other
     by (inl same) =

@@ -84,7 +84,9 @@ name_byte : (b : ℕ) → is_file_byte b ≡ true → is_printable b ≡ true
 name_byte b h = grind (arith, nat_tests)
 
 pub file_printable : (file : StoreFile) → FitsFile file → IsPrintable (file_words file)
-file_printable file fits = joined_printable file.name (hex_text file.bytes) (only_weaker is_file_byte is_printable file.name name_byte fits.name) (hex_printable file.bytes fits.octets)
+file_printable file fits =
+    joined_printable file.name (hex_text file.bytes) (only_weaker is_file_byte is_printable file.name name_byte fits.name)
+    (hex_printable file.bytes fits.octets)
 
 -- a name is text
 
@@ -130,16 +132,19 @@ either true false = refl
 either false true = refl
 either false false = refl
 
-more_names : (files more : List FileLine) (file : FileLine) → more ≡ files ++ file ∷ [] → map file_name (map file_of more) ≡ map file_name (map file_of files) ++ string_bytes file.name ∷ []
+more_names : (files more : List FileLine) (file : FileLine) → more ≡ files ++ file ∷ []
+    → map file_name (map file_of more) ≡ map file_name (map file_of files) ++ string_bytes file.name ∷ []
 more_names files more file e =
     ap (λ fs. map file_name (map file_of fs)) e ∙ ap (map file_name) (map_push file_of files file) ∙ map_push file_name (map file_of files) (file_of file)
 
-pub names_more : (old new : List (String Global)) (key : String Global) (files more : List FileLine) (file : FileLine) → string_bytes key ≡ string_bytes file.name → more ≡ files ++ file ∷ []
+pub names_more : (old new : List (String Global)) (key : String Global) (files more : List FileLine) (file : FileLine)
+    → string_bytes key ≡ string_bytes file.name → more ≡ files ++ file ∷ []
     → ((q : String Global) → has_name new (string_bytes q) ≡ cond (is_name (string_bytes key) (string_bytes q)) true (has_name old (string_bytes q)))
     → AreNames old (map file_of files) → AreNames new (map file_of more)
 names_more old new key files more file named grown updates are = λ q.
     let names = map file_name (map file_of files) in
-    let same : is_name (string_bytes key) (string_bytes q) ≡ is_name (string_bytes q) (string_bytes file.name) = names_equal.symm (string_bytes key) (string_bytes q) ∙ ap (is_name (string_bytes q)) named in
+    let same : is_name (string_bytes key) (string_bytes q) ≡ is_name (string_bytes q) (string_bytes file.name) =
+    names_equal.symm (string_bytes key) (string_bytes q) ∙ ap (is_name (string_bytes q)) named in
     updates q
     ∙ ap (λ b. cond b true (has_name old (string_bytes q))) same
     ∙ either (is_name (string_bytes q) (string_bytes file.name)) (has_name old (string_bytes q))
@@ -153,13 +158,16 @@ or_parts false true e = cc
 or_parts true b e = cc
 
 -- a file whose name none has
-pub new_unlike : (files : List StoreFile) (file : StoreFile) → is_member is_name (map file_name files) file.name ≡ false → AllByRecursion (λ other. UnlikeNames other file) files
+pub new_unlike : (files : List StoreFile) (file : StoreFile) → is_member is_name (map file_name files) file.name ≡ false
+    → AllByRecursion (λ other. UnlikeNames other file) files
 new_unlike [] file e = tt
 new_unlike (other ∷ files) file e =
     let parts = or_parts (is_name file.name other.name) (is_member is_name (map file_name files) file.name) e in
     (λ same. apart_sound file.name other.name parts.0 (sym same), new_unlike files file parts.1)
 
-pub unlike_new : (files : List StoreFile) (file : StoreFile) → AllByRecursion (λ other. UnlikeNames other file) files → is_member is_name (map file_name files) file.name ≡ false
+pub unlike_new : (files : List StoreFile) (file : StoreFile) → AllByRecursion (λ other. UnlikeNames other file) files
+    → is_member is_name (map file_name files) file.name ≡ false
 unlike_new [] file unlike = refl
 unlike_new (other ∷ files) file unlike =
-    ap (λ b. b || is_member is_name (map file_name files) file.name) (apart_whole file.name other.name (λ same. unlike.0 (sym same))) ∙ unlike_new files file unlike.1
+    ap (λ b. b || is_member is_name (map file_name files) file.name) (apart_whole file.name other.name (λ same. unlike.0 (sym same)))
+    ∙ unlike_new files file unlike.1

@@ -40,7 +40,8 @@ pairs_none R = λ i j d below within. absurd (omega arith)
 pub pairs_front : {X : Type 0} (R : X → X → Type 0) (xs ys : List X) → AllPairs R (xs ++ ys) → AllPairs R xs
 pairs_front R [] ys pairs = pairs_none R
 pairs_front R (x ∷ xs) ys pairs =
-    AllPairs-cons R x xs (All-from_recursion (R x) xs (all_front (R x) xs ys (pairs_head R x (xs ++ ys) pairs))) (pairs_front R xs ys (pairs_tail R x (xs ++ ys) pairs))
+    AllPairs-cons R x xs (All-from_recursion (R x) xs (all_front (R x) xs ys (pairs_head R x (xs ++ ys) pairs)))
+    (pairs_front R xs ys (pairs_tail R x (xs ++ ys) pairs))
 
 -- the next one beside all before it
 pub pairs_next : {X : Type 0} (R : X → X → Type 0) (xs : List X) (x : X) (ys : List X) → AllPairs R (xs ++ x ∷ ys) → AllByRecursion (λ y. R y x) xs
@@ -69,7 +70,8 @@ pub behind : {L : Type 0} (front rest grown : List L) (line : L) → rest ++ lin
 behind front rest grown line e = append_assoc front rest (line ∷ []) ∙ ap (λ t. front ++ t) e
 
 -- a text more, and what it spells
-pub spelled_more : {T X : Type 0} (Spells : T → X → Type 0) (texts : List T) (xs : List X) (text : T) (x : X) → AreSpelled Spells texts xs → Spells text x → AreSpelled Spells (texts ++ text ∷ []) (xs ++ x ∷ [])
+pub spelled_more : {T X : Type 0} (Spells : T → X → Type 0) (texts : List T) (xs : List X) (text : T) (x : X) → AreSpelled Spells texts xs → Spells text x
+    → AreSpelled Spells (texts ++ text ∷ []) (xs ++ x ∷ [])
 spelled_more Spells [] [] text x are spells = (spells, tt)
 spelled_more Spells [] (y ∷ xs) text x are spells = absurd are
 spelled_more Spells (t ∷ texts) [] text x are spells = absurd are
@@ -82,7 +84,8 @@ none_spelled Spells (text ∷ texts) are = absurd are
 -- ---- rows
 
 -- a row that isn't there yet makes one more
-put_new : (row x : HostRow) (xs ys : List HostRow) (r : Ordering) → row_cmp row x ≡ r → (is_eq r || has_row xs row) ≡ false → (has_row xs row ≡ false → length ys ≡ length xs + 1)
+put_new : (row x : HostRow) (xs ys : List HostRow) (r : Ordering) → row_cmp row x ≡ r → (is_eq r || has_row xs row) ≡ false
+    → (has_row xs row ≡ false → length ys ≡ length xs + 1)
     → length (match_ordering r (row ∷ x ∷ xs) (x ∷ xs) (x ∷ ys)) ≡ length (x ∷ xs) + 1
 put_new row x xs ys Less e none later = omega arith
 put_new row x xs ys Equal e none later = cc
@@ -92,14 +95,17 @@ new_counted : (row : HostRow) (rows : List HostRow) → has_row rows row ≡ fal
 new_counted row [] none = refl
 new_counted row (x ∷ xs) none = put_new row x xs (with_row row xs) (row_cmp row x) refl none (new_counted row xs)
 
-pub once_more : (rows : List HostRow) (row : HostRow) → length (in_row_order rows) ≡ length rows → has_row rows row ≡ false → length (in_row_order (rows ++ row ∷ [])) ≡ length (rows ++ row ∷ [])
+pub once_more : (rows : List HostRow) (row : HostRow) → length (in_row_order rows) ≡ length rows → has_row rows row ≡ false
+    → length (in_row_order (rows ++ row ∷ [])) ≡ length (rows ++ row ∷ [])
 once_more rows row once none =
     let new : has_row (in_row_order rows) row ≡ false = in_order_has rows row ∙ none in
-    let counted : length (in_row_order (rows ++ row ∷ [])) ≡ length (in_row_order rows) + 1 = ap length (put_in_order_more [] rows row) ∙ new_counted row (in_row_order rows) new in
+    let counted : length (in_row_order (rows ++ row ∷ [])) ≡ length (in_row_order rows) + 1 =
+    ap length (put_in_order_more [] rows row) ∙ new_counted row (in_row_order rows) new in
     omega (arith, counted, once, length-append rows (row ∷ []))
 
 module _ {K : Type 0} {R : K → K → Ordering} (o : IsTotalOrder R) where
-  inserted_by : (P : K → Type 0) (k x : K) (xs ys : List K) (r : Ordering) → P k → P x → AllByRecursion P xs → AllByRecursion P ys → AllByRecursion P (match_ordering r (k ∷ x ∷ xs) (x ∷ xs) (x ∷ ys))
+  inserted_by : (P : K → Type 0) (k x : K) (xs ys : List K) (r : Ordering) → P k → P x → AllByRecursion P xs → AllByRecursion P ys
+      → AllByRecursion P (match_ordering r (k ∷ x ∷ xs) (x ∷ xs) (x ∷ ys))
   inserted_by P k x xs ys Less pk px all others = (pk, (px, all))
   inserted_by P k x xs ys Equal pk px all others = (px, all)
   inserted_by P k x xs ys Greater pk px all others = (px, others)
@@ -108,7 +114,8 @@ module _ {K : Type 0} {R : K → K → Ordering} (o : IsTotalOrder R) where
   all_inserted P [] k all pk = (pk, tt)
   all_inserted P (x ∷ xs) k all pk = inserted_by P k x xs (insert_key R xs k) (R k x) pk all.0 all.1 (all_inserted P xs k all.1 pk)
 
-  sorted_by : (k x : K) (xs : List K) (r : Ordering) → R k x ≡ r → AllByRecursion (λ y. R x y ≡ Less) xs → IsStrictlySortedBy R xs → IsStrictlySortedBy R (insert_key R xs k)
+  sorted_by : (k x : K) (xs : List K) (r : Ordering) → R k x ≡ r → AllByRecursion (λ y. R x y ≡ Less) xs → IsStrictlySortedBy R xs
+      → IsStrictlySortedBy R (insert_key R xs k)
       → IsStrictlySortedBy R (match_ordering r (k ∷ x ∷ xs) (x ∷ xs) (x ∷ insert_key R xs k))
   unfolding IsStrictlySortedBy
   sorted_by k x xs Less e above sorted later = ((e, all_map (λ y. R x y ≡ Less) (λ y. R k y ≡ Less) (λ y h. o.trans k x y e h) xs above), (above, sorted))
@@ -139,7 +146,8 @@ module _ {K : Type 0} {R : K → K → Ordering} (o : IsTotalOrder R) where
   insert_old (x ∷ xs) k sorted has = old_by k x xs (R k x) refl sorted.0 has (insert_old xs k sorted.1)
 
   -- at most one more
-  length_by : (k x : K) (xs ys : List K) (r : Ordering) → length ys ≤ length xs + 1 → length (match_ordering r (k ∷ x ∷ xs) (x ∷ xs) (x ∷ ys)) ≤ length (x ∷ xs) + 1
+  length_by : (k x : K) (xs ys : List K) (r : Ordering) → length ys ≤ length xs + 1
+      → length (match_ordering r (k ∷ x ∷ xs) (x ∷ xs) (x ∷ ys)) ≤ length (x ∷ xs) + 1
   length_by k x xs ys Less later = omega arith
   length_by k x xs ys Equal later = omega arith
   length_by k x xs ys Greater later = omega (arith, later)
@@ -165,7 +173,8 @@ put_joined sorted [] ys = refl
 put_joined sorted (x ∷ xs) ys = put_joined (with_row x sorted) xs ys
 
 -- where rows are each once, the next one isn't among those before it
-pub once_next : (rows : List HostRow) (row : HostRow) (more : List HostRow) → length (in_row_order (rows ++ row ∷ more)) ≡ length (rows ++ row ∷ more) → has_row rows row ≡ false
+pub once_next : (rows : List HostRow) (row : HostRow) (more : List HostRow) → length (in_row_order (rows ++ row ∷ more)) ≡ length (rows ++ row ∷ more)
+    → has_row rows row ≡ false
 once_next rows row more once = by (has_row rows row) refl
   where
     keys : List HostRow
@@ -176,5 +185,6 @@ once_next rows row more once = by (has_row rows row) refl
     by true e =
         let has : has_row keys row ≡ true = in_order_has rows row ∙ e in
         let same : with_row row keys ≡ keys = insert_old row_cmp_total keys row (put_sorted [] rows none_sorted) has in
-        let all : length (in_row_order (rows ++ row ∷ more)) ≡ length (put_in_order keys more) = ap length (put_joined [] rows (row ∷ more)) ∙ ap (λ ks. length (put_in_order ks more)) same in
+        let all : length (in_row_order (rows ++ row ∷ more)) ≡ length (put_in_order keys more) =
+        ap length (put_joined [] rows (row ∷ more)) ∙ ap (λ ks. length (put_in_order ks more)) same in
         absurd (omega (arith, all, once, put_length keys more, put_length [] rows, length-append rows (row ∷ more)))

@@ -121,7 +121,8 @@ device_printable Host = refl
 device_printable Hooks = refl
 
 pub fail_printable : (fail : FailLine) → FitsFail fail → IsPrintable (fail_words fail)
-fail_printable fail fits = joined_printable (device_text fail.device) (decimal fail.number) (device_printable fail.device) (decimal_printable fail.number fits.bits)
+fail_printable fail fits =
+    joined_printable (device_text fail.device) (decimal fail.number) (device_printable fail.device) (decimal_printable fail.number fits.bits)
 
 -- ---- moments and random words
 
@@ -369,7 +370,8 @@ came_printable : (text : List ℕ) (event : Event) (bytes : List ℕ) → IsCame
 came_printable text (Frame iface len) bytes is =
     subst IsPrintable (sym (is.0 ∙ frame_spelled (record { number = iface }, bytes)))
     (only-append is_printable (codes "frame ") (decimal iface ++ 32 ∷ hex_text bytes) refl
-    (joined_printable (decimal iface) (hex_text bytes) (iface_printable (record { number = iface }) is.1.0) (let frame = is.1.1 in hex_printable bytes frame.octets)))
+    (joined_printable (decimal iface) (hex_text bytes) (iface_printable (record { number = iface }) is.1.0)
+    (let frame = is.1.1 in hex_printable bytes frame.octets)))
 came_printable text (Carrier iface up) bytes is =
     subst IsPrintable (sym (is.0 ∙ carrier_spelled (record { number = iface }, up)))
     (only-append is_printable (codes "carrier ") (decimal iface ++ 32 ∷ carrier_text up) refl
@@ -460,7 +462,9 @@ turn_from text given spells =
 
 pub turn_finds : Finds SpellsTurn turn_at
 unfolding turn_at
-turn_finds = same_finds SpellsTurn turn_to turn_from (map_finds turn_given (pair_finds 32 (one_text moment_reads) (pair_finds 32 (one_text salt_reads) came_finds salt_apart) moment_apart))
+turn_finds =
+    same_finds SpellsTurn turn_to turn_from
+    (map_finds turn_given (pair_finds 32 (one_text moment_reads) (pair_finds 32 (one_text salt_reads) came_finds salt_apart) moment_apart))
 
 turn_grouped : (at salt event : List ℕ) → codes "turn " ++ at ++ codes " " ++ salt ++ codes " " ++ event ≡ codes "turn " ++ (at ++ 32 ∷ (salt ++ 32 ∷ event))
 turn_grouped at salt event = simp append_assoc
@@ -482,4 +486,5 @@ turn_printable text given spells =
     let small : given.wake.at < 10 ^ 15 = fits.at in
     subst IsPrintable (sym spells.spelled)
     (joined_printable (decimal given.wake.at) (decimal given.wake.salt ++ 32 ∷ spells.event) (decimal_printable given.wake.at (omega arith))
-    (joined_printable (decimal given.wake.salt) spells.event (decimal_printable given.wake.salt fits.salt) (came_printable spells.event given.wake.event given.bytes (spells.spells, (fits.event, fits.bytes)))))
+    (joined_printable (decimal given.wake.salt) spells.event (decimal_printable given.wake.salt fits.salt)
+    (came_printable spells.event given.wake.event given.bytes (spells.spells, (fits.event, fits.bytes)))))

@@ -76,12 +76,14 @@ or_true : (b : Bool) → (b || true) ≡ true
 or_true true = refl
 or_true false = refl
 
-kind_within : {X : Type 0} (f : X → Line) (k n : ℕ) → ((x : X) → rank_of (word_at (f x)) ≡ n) → (xs : List X) → list_all (within k) (map f xs) ≡ (leb n k || none_of xs)
+kind_within : {X : Type 0} (f : X → Line) (k n : ℕ) → ((x : X) → rank_of (word_at (f x)) ≡ n) → (xs : List X)
+    → list_all (within k) (map f xs) ≡ (leb n k || none_of xs)
 kind_within f k n law [] = sym (or_true (leb n k))
 kind_within f k n law (x ∷ xs) =
     ap (λ r. leb r k && list_all (within k) (map f xs)) (law x) ∙ ap (λ b. leb n k && b) (kind_within f k n law xs) ∙ either_none (leb n k) (none_of xs)
 
-lives_within : (k : ℕ) → leb 7 k ≡ false → (lines : List (List Line)) (lives : List LifeScript) → AreSpelled SpellsLife lines lives → list_all (within k) (lives_lines lines) ≡ none_of lives
+lives_within : (k : ℕ) → leb 7 k ≡ false → (lines : List (List Line)) (lives : List LifeScript) → AreSpelled SpellsLife lines lives
+    → list_all (within k) (lives_lines lines) ≡ none_of lives
 lives_within k low [] [] lived = refl
 lives_within k low [] (life ∷ lives) lived = absurd lived
 lives_within k low (first ∷ lines) [] lived = absurd lived
@@ -96,9 +98,16 @@ joined : (k : ℕ) (xs ys : List Line) (a b : Bool) → list_all (within k) xs �
 joined k xs ys a b one other = list_all-append (within k) xs ys ∙ ap (λ c. c && list_all (within k) ys) one ∙ ap (λ c. a && c) other
 
 abbrev ranked : ℕ → List (List ℕ) → ScriptLines → Bool
-ranked k rows s = (leb 1 k || none_of s.conf) && ((leb 2 k || none_of s.ifaces) && ((leb 3 k || none_of rows) && ((leb 4 k || none_of s.files) && ((leb 5 k || none_of s.fails) && ((leb 6 k || none_of s.polls) && none_of s.lives)))))
+ranked k rows s =
+    (leb 1 k || none_of s.conf)
+    &&
+    ((leb 2 k || none_of s.ifaces)
+    &&
+    ((leb 3 k || none_of rows)
+    && ((leb 4 k || none_of s.files) && ((leb 5 k || none_of s.fails) && ((leb 6 k || none_of s.polls) && none_of s.lives)))))
 
-in_order_is : (k : ℕ) (rows : List (List ℕ)) (lives : List (List Line)) (s : ScriptLines) → AreSpelled SpellsLife lives s.lives → leb 7 k ≡ false → list_all (within k) (script_lines rows lives s) ≡ ranked k rows s
+in_order_is : (k : ℕ) (rows : List (List ℕ)) (lives : List (List Line)) (s : ScriptLines) → AreSpelled SpellsLife lives s.lives → leb 7 k ≡ false
+    → list_all (within k) (script_lines rows lives s) ≡ ranked k rows s
 in_order_is k rows lives s lived low =
     let conf_block = kind_within conf_line k 1 (λ text. ap rank_of (conf_word text)) s.conf in
     let iface_block = kind_within interface_text k 2 (λ spec. spelled_word (interface_text spec) Interface (spec_text spec) (spec_spelled spec)) s.ifaces in
@@ -106,8 +115,22 @@ in_order_is k rows lives s lived low =
     let file_block = kind_within file_text k 4 (λ file. spelled_word (file_text file) File (file_words file) (file_spelled file)) s.files in
     let fail_block = kind_within fail_text k 5 (λ fail. spelled_word (fail_text fail) Fail (fail_words fail) (fail_spelled fail)) s.fails in
     let poll_block = kind_within hook_text k 6 (λ answer. spelled_word (hook_text answer) Hook (poll_text answer) refl) s.polls in
-    ap (λ r. leb r k && list_all (within k) (map conf_line s.conf ++ (map interface_text s.ifaces ++ (map row_line rows ++ (map file_text s.files ++ (map fail_text s.fails ++ (map hook_text s.polls ++ lives_lines lives))))))) head_rank
-    ∙ ap (λ b. b && list_all (within k) (map conf_line s.conf ++ (map interface_text s.ifaces ++ (map row_line rows ++ (map file_text s.files ++ (map fail_text s.fails ++ (map hook_text s.polls ++ lives_lines lives))))))) (le-leb 0 k (omega arith))
+    ap
+    (λ r. leb r k
+    && list_all (within k)
+    (map conf_line s.conf
+    ++
+    (map interface_text s.ifaces
+    ++ (map row_line rows ++ (map file_text s.files ++ (map fail_text s.fails ++ (map hook_text s.polls ++ lives_lines lives)))))))
+    head_rank
+    ∙ ap
+    (λ b. b
+    && list_all (within k)
+    (map conf_line s.conf
+    ++
+    (map interface_text s.ifaces
+    ++ (map row_line rows ++ (map file_text s.files ++ (map fail_text s.fails ++ (map hook_text s.polls ++ lives_lines lives)))))))
+    (le-leb 0 k (omega arith))
     ∙ joined k (map conf_line s.conf) _ _ _ conf_block
     (joined k (map interface_text s.ifaces) _ _ _ iface_block
     (joined k (map row_line rows) _ _ _ row_block
@@ -133,18 +156,44 @@ lives_told count past (Some read) fits = some_more past read.life
 
 -- the lines are in order up to this kind, where nothing of a later one was read
 told : (k : ℕ) (read : LinesRead) (lines : List Line) → leb 7 k ≡ false → AfterLines read lines
-    → list_all (within k) lines ≡ ((leb 1 k || none_of (conf_lines read.conf)) && ((leb 2 k || none_of read.ifaces) && ((leb 3 k || none_of read.rows) && ((leb 4 k || none_of read.files) && ((leb 5 k || none_of read.fails) && ((leb 6 k || none_of read.polls) && before_lives read))))))
+    → list_all (within k) lines
+    ≡
+    ((leb 1 k || none_of (conf_lines read.conf))
+    &&
+    ((leb 2 k || none_of read.ifaces)
+    &&
+    ((leb 3 k || none_of read.rows)
+    &&
+    ((leb 4 k || none_of read.files)
+    && ((leb 5 k || none_of read.fails) && ((leb 6 k || none_of read.polls) && before_lives read))))))
 told k read lines low after =
     ap (list_all (within k)) after.are ∙ in_order_is k after.rows after.lives (script_in read) after.lived low
-    ∙ ap (λ b. (leb 1 k || none_of (conf_lines read.conf)) && ((leb 2 k || none_of read.ifaces) && ((leb 3 k || b) && ((leb 4 k || none_of read.files) && ((leb 5 k || none_of read.fails) && ((leb 6 k || none_of read.polls) && none_of (lives_in read))))))) (rows_told after.rows read.rows after.spelled)
-    ∙ ap (λ b. (leb 1 k || none_of (conf_lines read.conf)) && ((leb 2 k || none_of read.ifaces) && ((leb 3 k || none_of read.rows) && ((leb 4 k || none_of read.files) && ((leb 5 k || none_of read.fails) && ((leb 6 k || none_of read.polls) && b)))))) (lives_told (length read.ifaces) read.past read.last after.sound.last)
+    ∙ ap
+    (λ b. (leb 1 k || none_of (conf_lines read.conf))
+    &&
+    ((leb 2 k || none_of read.ifaces)
+    &&
+    ((leb 3 k || b)
+    &&
+    ((leb 4 k || none_of read.files)
+    && ((leb 5 k || none_of read.fails) && ((leb 6 k || none_of read.polls) && none_of (lives_in read)))))))
+    (rows_told after.rows read.rows after.spelled)
+    ∙ ap
+    (λ b. (leb 1 k || none_of (conf_lines read.conf))
+    &&
+    ((leb 2 k || none_of read.ifaces)
+    &&
+    ((leb 3 k || none_of read.rows)
+    && ((leb 4 k || none_of read.files) && ((leb 5 k || none_of read.fails) && ((leb 6 k || none_of read.polls) && b))))))
+    (lives_told (length read.ifaces) read.past read.last after.sound.last)
 
 -- ---- how many interfaces
 
 abbrev is_interface : Line → Bool
 is_interface line = eqb (rank_of (word_at line)) 2
 
-kind_none : {X : Type 0} (f : X → Line) (n : ℕ) → eqb n 2 ≡ false → ((x : X) → rank_of (word_at (f x)) ≡ n) → (xs : List X) → filter is_interface (map f xs) ≡ []
+kind_none : {X : Type 0} (f : X → Line) (n : ℕ) → eqb n 2 ≡ false → ((x : X) → rank_of (word_at (f x)) ≡ n) → (xs : List X)
+    → filter is_interface (map f xs) ≡ []
 kind_none f n other law [] = refl
 kind_none f n other law (x ∷ xs) =
     ap (λ b. cond b (f x ∷ filter is_interface (map f xs)) (filter is_interface (map f xs))) (ap (λ r. eqb r 2) (law x) ∙ other) ∙ kind_none f n other law xs
@@ -152,7 +201,8 @@ kind_none f n other law (x ∷ xs) =
 ifaces_all : {X : Type 0} (f : X → Line) → ((x : X) → rank_of (word_at (f x)) ≡ 2) → (xs : List X) → filter is_interface (map f xs) ≡ map f xs
 ifaces_all f law [] = refl
 ifaces_all f law (x ∷ xs) =
-    ap (λ b. cond b (f x ∷ filter is_interface (map f xs)) (filter is_interface (map f xs))) (ap (λ r. eqb r 2) (law x)) ∙ ap (λ ls. f x ∷ ls) (ifaces_all f law xs)
+    ap (λ b. cond b (f x ∷ filter is_interface (map f xs)) (filter is_interface (map f xs))) (ap (λ r. eqb r 2) (law x))
+    ∙ ap (λ ls. f x ∷ ls) (ifaces_all f law xs)
 
 both_none : (xs ys : List Line) → filter is_interface xs ≡ [] → filter is_interface ys ≡ [] → filter is_interface (xs ++ ys) ≡ []
 both_none xs ys one other = filter-append is_interface xs ys ∙ ap (λ ls. ls ++ filter is_interface ys) one ∙ other
@@ -167,7 +217,8 @@ turns_none [] (given ∷ turns) spelled = absurd spelled
 turns_none (line ∷ lines) [] spelled = absurd spelled
 turns_none (line ∷ lines) (given ∷ turns) spelled =
     let spells = spelled.0 in
-    ap (λ r. cond (eqb r 2) (line ∷ filter is_interface lines) (filter is_interface lines)) (spelled_word line Turn (turn_words given spells.event) (turn_spelled line given spells))
+    ap (λ r. cond (eqb r 2) (line ∷ filter is_interface lines) (filter is_interface lines))
+    (spelled_word line Turn (turn_words given spells.event) (turn_spelled line given spells))
     ∙ turns_none lines turns spelled.1
 
 life_none : (lines : List Line) (life : LifeScript) → SpellsLife lines life → filter is_interface lines ≡ []
@@ -183,29 +234,36 @@ lives_none [] (life ∷ lives) lived = absurd lived
 lives_none (first ∷ lines) [] lived = absurd lived
 lives_none (first ∷ lines) (life ∷ lives) lived = both_none first (lives_lines lines) (life_none first life lived.0) (lives_none lines lives lived.1)
 
-counted : (rows : List (List ℕ)) (lives : List (List Line)) (s : ScriptLines) → AreSpelled SpellsLife lives s.lives → interfaces_in (script_lines rows lives s) ≡ length s.ifaces
+counted : (rows : List (List ℕ)) (lives : List (List Line)) (s : ScriptLines) → AreSpelled SpellsLife lives s.lives
+    → interfaces_in (script_lines rows lives s) ≡ length s.ifaces
 counted rows lives s lived =
     let behind = map row_line rows ++ (map file_text s.files ++ (map fail_text s.fails ++ (map hook_text s.polls ++ lives_lines lives))) in
     let none = both_none (map row_line rows) _ (kind_none row_line 3 refl (λ text. spelled_word (row_line text) Row text refl) rows)
     (both_none (map file_text s.files) _ (kind_none file_text 4 refl (λ file. spelled_word (file_text file) File (file_words file) (file_spelled file)) s.files)
     (both_none (map fail_text s.fails) _ (kind_none fail_text 5 refl (λ fail. spelled_word (fail_text fail) Fail (fail_words fail) (fail_spelled fail)) s.fails)
-    (both_none (map hook_text s.polls) _ (kind_none hook_text 6 refl (λ answer. spelled_word (hook_text answer) Hook (poll_text answer) refl) s.polls) (lives_none lives s.lives lived)))) in
-    let all : filter is_interface (map interface_text s.ifaces) ≡ map interface_text s.ifaces = ifaces_all interface_text (λ spec. spelled_word (interface_text spec) Interface (spec_text spec) (spec_spelled spec)) s.ifaces in
+    (both_none (map hook_text s.polls) _ (kind_none hook_text 6 refl (λ answer. spelled_word (hook_text answer) Hook (poll_text answer) refl) s.polls)
+    (lives_none lives s.lives lived))))
+    in
+    let all : filter is_interface (map interface_text s.ifaces) ≡ map interface_text s.ifaces =
+    ifaces_all interface_text (λ spec. spelled_word (interface_text spec) Interface (spec_text spec) (spec_spelled spec)) s.ifaces in
     let after_conf : filter is_interface (map interface_text s.ifaces ++ behind) ≡ map interface_text s.ifaces =
-    filter-append is_interface (map interface_text s.ifaces) behind ∙ ap (λ ls. ls ++ filter is_interface behind) all ∙ ap (λ ls. map interface_text s.ifaces ++ ls) none ∙ append-nil (map interface_text s.ifaces) in
+    filter-append is_interface (map interface_text s.ifaces) behind ∙ ap (λ ls. ls ++ filter is_interface behind) all
+    ∙ ap (λ ls. map interface_text s.ifaces ++ ls) none ∙ append-nil (map interface_text s.ifaces) in
     let rest = map conf_line s.conf ++ (map interface_text s.ifaces ++ behind) in
     let whole_lines : filter is_interface rest ≡ map interface_text s.ifaces =
     filter-append is_interface (map conf_line s.conf) (map interface_text s.ifaces ++ behind)
     ∙ ap (λ ls. ls ++ filter is_interface (map interface_text s.ifaces ++ behind)) (kind_none conf_line 1 refl (λ text. ap rank_of (conf_word text)) s.conf)
     ∙ after_conf in
-    ap (λ r. length (cond (eqb r 2) (head_line ∷ filter is_interface rest) (filter is_interface rest))) head_rank ∙ ap length whole_lines ∙ length-map s.ifaces interface_text
+    ap (λ r. length (cond (eqb r 2) (head_line ∷ filter is_interface rest) (filter is_interface rest))) head_rank ∙ ap length whole_lines
+    ∙ length-map s.ifaces interface_text
 
 pub interfaces_told : (read : LinesRead) (lines : List Line) → AfterLines read lines → interfaces_in lines ≡ length read.ifaces
 interfaces_told read lines after = ap interfaces_in after.are ∙ counted after.rows after.lives (script_in read) after.lived
 
 -- ---- in a life: a script goes on with the word
 
-begins_by : (lines : List Line) (word : Word) (said : List ℕ) → Completes SpellsRead (lines ++ (word_text word ++ 32 ∷ said) ∷ []) → Begins SpellsScript (lines_text lines ++ word_text word)
+begins_by : (lines : List Line) (word : Word) (said : List ℕ) → Completes SpellsRead (lines ++ (word_text word ++ 32 ∷ said) ∷ [])
+    → Begins SpellsScript (lines_text lines ++ word_text word)
 begins_by lines word said c =
     let line = word_text word ++ 32 ∷ said in
     record {
@@ -233,15 +291,21 @@ last_crash = record { calls = None; kind = Old }
 
 start_begins : (read : LinesRead) (lines : List Line) → AfterLines read lines → may_come read Start ≡ true → IsInPlace lines Start
 start_begins read lines after comes =
-    begins_by lines Start (begin_words first_begin) (completed (with_start read first_begin) (lines ++ (word_text Start ++ 32 ∷ begin_words first_begin) ∷ []) (start_grows read lines first_begin after comes (first_fits (length read.ifaces))))
+    begins_by lines Start (begin_words first_begin)
+    (completed (with_start read first_begin) (lines ++ (word_text Start ++ 32 ∷ begin_words first_begin) ∷ [])
+    (start_grows read lines first_begin after comes (first_fits (length read.ifaces))))
 
 turn_begins : (read : LinesRead) (lines : List Line) → AfterLines read lines → may_come read Turn ≡ true → IsInPlace lines Turn
 turn_begins read lines after comes =
-    begins_by lines Turn quiet_words (completed (with_last read (with_turn quiet_turn)) (lines ++ (word_text Turn ++ 32 ∷ quiet_words) ∷ []) (turn_grows read lines quiet_words quiet_turn after comes quiet_spelled refl))
+    begins_by lines Turn quiet_words
+    (completed (with_last read (with_turn quiet_turn)) (lines ++ (word_text Turn ++ 32 ∷ quiet_words) ∷ [])
+    (turn_grows read lines quiet_words quiet_turn after comes quiet_spelled refl))
 
 crash_begins : (read : LinesRead) (lines : List Line) → AfterLines read lines → may_come read Crash ≡ true → IsInPlace lines Crash
 crash_begins read lines after comes =
-    begins_by lines Crash (crash_words last_crash) (completed (with_last read (with_crash last_crash)) (lines ++ (word_text Crash ++ 32 ∷ crash_words last_crash) ∷ []) (crash_grows read lines last_crash after comes tt))
+    begins_by lines Crash (crash_words last_crash)
+    (completed (with_last read (with_crash last_crash)) (lines ++ (word_text Crash ++ 32 ∷ crash_words last_crash) ∷ [])
+    (crash_grows read lines last_crash after comes tt))
 
 -- ---- in a life: no script goes on with the word
 
@@ -288,13 +352,15 @@ no_text Start more e = cc
 no_text Turn more e = cc
 no_text Crash more e = cc
 
-comes_by : (read : LinesRead) (word : Word) (line : Line) (next : LinesRead) → Fronted (word_text word) line → step_after read line ≡ Some next → may_come read word ≡ true
+comes_by : (read : LinesRead) (word : Word) (line : Line) (next : LinesRead) → Fronted (word_text word) line → step_after read line ≡ Some next
+    → may_come read word ≡ true
 comes_by read word line next front e =
     let is = taken_is read line next e in
     let same = word_begins word front.rest is.known (ap word_at (sym front.is) ∙ is.word) in
     subst (λ w. may_come read w ≡ true) same is.comes
 
-went_on : (read : LinesRead) (word : Word) (more : List ℕ) (lines : List Line) (end : Option LinesRead) → word_text word ++ more ≡ lines_text lines → run step lines (Some read) ≡ Some end → may_come read word ≡ true
+went_on : (read : LinesRead) (word : Word) (more : List ℕ) (lines : List Line) (end : Option LinesRead) → word_text word ++ more ≡ lines_text lines
+    → run step lines (Some read) ≡ Some end → may_come read word ≡ true
 went_on read word more [] end e runs = absurd (no_text word more e)
 went_on read word more (line ∷ lines) end e runs = by (step_after read line) refl runs
   where
@@ -305,12 +371,17 @@ went_on read word more (line ∷ lines) end e runs = by (step_after read line) r
     by None is q = absurd (none-some end q)
     by (Some next) is q = comes_by read word line next front is
 
-pub begun_comes : (read : LinesRead) (lines : List Line) (word : Word) → run step lines None ≡ Some (Some read) → Begins SpellsScript (lines_text lines ++ word_text word) → may_come read word ≡ true
+pub begun_comes : (read : LinesRead) (lines : List Line) (word : Word) → run step lines None ≡ Some (Some read)
+    → Begins SpellsScript (lines_text lines ++ word_text word) → may_come read word ≡ true
 begun_comes read lines word runs begins =
-    let spells : SpellsRead (record { conf = flat_map ended begins.value.conf; script = begins.value }) begins.lines = record { spells = begins.spells; conf = refl } in
+    let spells : SpellsRead (record { conf = flat_map ended begins.value.conf; script = begins.value }) begins.lines =
+    record { spells = begins.spells; conf = refl } in
     let w = whole _ begins.lines spells in
-    let on = goes_on lines begins.lines (word_text word ++ begins.more) (run_lines lines None (Some read) runs) (are _ begins.lines spells) (begins.goes_on ∙ append_assoc (lines_text lines) (word_text word) begins.more) in
-    let later : run step on.more (Some read) ≡ Some w.state = sym (run_more step lines on.more None (Some read) runs) ∙ ap (λ ls. run step ls None) (sym on.whole) ∙ w.runs in
+    let on =
+    goes_on lines begins.lines (word_text word ++ begins.more) (run_lines lines None (Some read) runs) (are _ begins.lines spells)
+    (begins.goes_on ∙ append_assoc (lines_text lines) (word_text word) begins.more) in
+    let later : run step on.more (Some read) ≡ Some w.state =
+    sym (run_more step lines on.more None (Some read) runs) ∙ ap (λ ls. run step ls None) (sym on.whole) ∙ w.runs in
     went_on read word begins.more on.more w.state on.text later
 
 -- ---- every word
@@ -330,7 +401,8 @@ in_place read lines Start after comes = start_begins read lines after comes
 in_place read lines Turn after comes = turn_begins read lines after comes
 in_place read lines Crash after comes = crash_begins read lines after comes
 
-pub place_comes : (read : LinesRead) (lines : List Line) (word : Word) → run step lines None ≡ Some (Some read) → AfterLines read lines → IsInPlace lines word → may_come read word ≡ true
+pub place_comes : (read : LinesRead) (lines : List Line) (word : Word) → run step lines None ≡ Some (Some read) → AfterLines read lines → IsInPlace lines word
+    → may_come read word ≡ true
 place_comes read lines Head runs after place = absurd place
 place_comes read lines Conf runs after place = sym (told 1 read lines refl after) ∙ place
 place_comes read lines Interface runs after place =

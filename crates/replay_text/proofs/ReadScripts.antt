@@ -47,7 +47,8 @@ taken_free : (line : Line) → is_text line ≡ true → Lacks 10 line
 unfolding is_text
 taken_free line e = text_free (is_some (strip_word (codes "c:") line)) line e
 
-head_is : (line : Line) (next : Option LinesRead) (b : Bool) → bytes_eq line head_line ≡ b → cond b (Some (Some nothing_read)) None ≡ Some next → (line ≡ head_line) × (next ≡ Some nothing_read)
+head_is : (line : Line) (next : Option LinesRead) (b : Bool) → bytes_eq line head_line ≡ b → cond b (Some (Some nothing_read)) None ≡ Some next
+    → (line ≡ head_line) × (next ≡ Some nothing_read)
 head_is line next true t e = ((bytes_eq-Decides line head_line).0 t, sym (some_same e))
 head_is line next false t e = absurd (none-some next e)
 
@@ -62,7 +63,8 @@ pub run_lines : (lines : List Line) (state end : Option LinesRead) → run step 
 run_lines [] state end e = tt
 run_lines (line ∷ lines) state end e = by (run_lines lines) (step state line) refl e
   where
-    by : ((s t : Option LinesRead) → run step lines s ≡ Some t → AreLines lines) → (o : Option (Option LinesRead)) → step state line ≡ o → option_and_then (run step lines) o ≡ Some end → AreLines (line ∷ lines)
+    by : ((s t : Option LinesRead) → run step lines s ≡ Some t → AreLines lines) → (o : Option (Option LinesRead)) → step state line ≡ o
+        → option_and_then (run step lines) o ≡ Some end → AreLines (line ∷ lines)
     by others None is q = absurd (none-some end q)
     by others (Some next) is q = (step_free state next line is, others next end q)
 
@@ -79,15 +81,18 @@ parted count past life passed =
     let crashes = all_map (HasPassed count) Crashes (λ one h. h.1) past passed in
     pairs_more (λ one later. Crashes one) past life (pairs_of Crashes past crashes) crashes
 
-lives_fit : (count : ℕ) (past : List LifeScript) (life : LifeScript) → AllByRecursion (HasPassed count) past → FitsLife count life → AllByRecursion (FitsLife count) (past ++ life ∷ [])
-lives_fit count past life passed fits = all_join (FitsLife count) past (life ∷ []) (all_map (HasPassed count) (FitsLife count) (λ one h. h.0) past passed) (fits, tt)
+lives_fit : (count : ℕ) (past : List LifeScript) (life : LifeScript) → AllByRecursion (HasPassed count) past → FitsLife count life
+    → AllByRecursion (FitsLife count) (past ++ life ∷ [])
+lives_fit count past life passed fits =
+    all_join (FitsLife count) past (life ∷ []) (all_map (HasPassed count) (FitsLife count) (λ one h. h.0) past passed) (fits, tt)
 
 record FitLives (count : ℕ) (lives : List LifeScript) : Type 0 where
   some : 1 ≤ length lives
   between : CrashBetween lives
   each : AllByRecursion (FitsLife count) lives
 
-fit_lives : (count : ℕ) (past : List LifeScript) (last : Option LifeRead) → AllByRecursion (HasPassed count) past → FitsLast count past last → is_some last ≡ true → FitLives count (past ++ last_life last)
+fit_lives : (count : ℕ) (past : List LifeScript) (last : Option LifeRead) → AllByRecursion (HasPassed count) past → FitsLast count past last
+    → is_some last ≡ true → FitLives count (past ++ last_life last)
 fit_lives count past None passed fits some = cc
 fit_lives count past (Some read) passed fits some = record {
   some = omega (arith, length-append past (read.life ∷ []));
@@ -139,10 +144,19 @@ pub completed : (read : LinesRead) (lines : List Line) → AfterLines read lines
 completed read lines after = by read.last refl
   where
     by : (last : Option LifeRead) → read.last ≡ last → Completes SpellsRead lines
-    by (Some life) is = record { value = script_read read; more = []; spells = subst (SpellsRead (script_read read)) (sym (append-nil lines)) (ends_here read lines after (ap is_some is)) }
+    by (Some life) is =
+        record {
+          value = script_read read;
+          more = [];
+          spells = subst (SpellsRead (script_read read)) (sym (append-nil lines)) (ends_here read lines after (ap is_some is));
+        }
     by None is =
         let begun = start_grows read lines first_begin after (ap may_begin is) (first_fits (length read.ifaces)) in
-        record { value = script_read (with_start read first_begin); more = first_start ∷ []; spells = ends_here (with_start read first_begin) (lines ++ first_start ∷ []) begun refl }
+        record {
+          value = script_read (with_start read first_begin);
+          more = first_start ∷ [];
+          spells = ends_here (with_start read first_begin) (lines ++ first_start ∷ []) begun refl;
+        }
 
 nothing_fits : AfterLines nothing_read (head_line ∷ [])
 unfolding conf_lines
@@ -175,7 +189,8 @@ completes (Some read) lines after = completed read lines after.read
 
 -- ---- one line more, and the end
 
-pub takes : (state next : Option LinesRead) (lines : List Line) (line : Line) → After state lines → step state line ≡ Some next → After next (lines ++ line ∷ [])
+pub takes : (state next : Option LinesRead) (lines : List Line) (line : Line) → After state lines → step state line ≡ Some next
+    → After next (lines ++ line ∷ [])
 takes state next lines line after e = record {
   runs = run_more step lines (line ∷ []) None state after.runs ∙ ap (option_and_then (run step [])) e;
   read = by state after.read e;
@@ -184,7 +199,8 @@ takes state next lines line after e = record {
     by : (s : Option LinesRead) → IsAfter s lines → step s line ≡ Some next → IsAfter next (lines ++ line ∷ [])
     by None none q =
         let is = head_is line next (bytes_eq line head_line) refl q in
-        subst (λ n. IsAfter n (lines ++ line ∷ [])) (sym is.1) (subst (λ ls. AfterLines nothing_read (ls ++ line ∷ [])) (sym none) (subst (λ l. AfterLines nothing_read (l ∷ [])) (sym is.0) nothing_fits))
+        subst (λ n. IsAfter n (lines ++ line ∷ [])) (sym is.1)
+        (subst (λ ls. AfterLines nothing_read (ls ++ line ∷ [])) (sym none) (subst (λ l. AfterLines nothing_read (l ∷ [])) (sym is.0) nothing_fits))
     by (Some read) before q =
         let m = mapped Some (step_after read line) next q in
         subst (λ n. IsAfter n (lines ++ line ∷ [])) m.gives (taken read lines line m.value before m.was)
@@ -206,7 +222,9 @@ whole value lines spells =
     record {
       state = Some w.read;
       runs = ap (λ ls. run step ls None) s.are ∙ w.runs;
-      gives = ap (λ b. cond b (Some (script_read w.read)) None) w.some ∙ ap (λ (sc : ScriptLines). Some (record { conf = w.read.conf; script = sc })) w.is ∙ ap (λ c. Some (record { conf = c; script = value.script })) (w.conf ∙ sym spells.conf);
+      gives =
+          ap (λ b. cond b (Some (script_read w.read)) None) w.some ∙ ap (λ (sc : ScriptLines). Some (record { conf = w.read.conf; script = sc })) w.is
+          ∙ ap (λ c. Some (record { conf = c; script = value.script })) (w.conf ∙ sym spells.conf);
     }
 
 pub are : (value : ScriptRead) (lines : List Line) → SpellsRead value lines → AreLines lines

@@ -133,15 +133,19 @@ none_behind_rows lives read sound lived e =
     let parts = and_parts (none_of read.files) (before_fails read) e in
     ap (λ fs. map file_text fs ++ behind_files lives read) (none_is read.files parts.0) ∙ none_behind_files lives read sound lived parts.1
 
-none_behind_ifaces : (rows : List (List ℕ)) (lives : List (List Line)) (read : LinesRead) → IsSound read → AreSpelled SpellsRow rows read.rows → AreLives lives read → before_rows read ≡ true → behind_ifaces rows lives read ≡ []
+none_behind_ifaces : (rows : List (List ℕ)) (lives : List (List Line)) (read : LinesRead) → IsSound read → AreSpelled SpellsRow rows read.rows
+    → AreLives lives read → before_rows read ≡ true → behind_ifaces rows lives read ≡ []
 none_behind_ifaces rows lives read sound spelled lived e =
     let parts = and_parts (none_of read.rows) (before_files read) e in
-    ap (λ rs. map row_line rs ++ behind_rows lives read) (none_spelled SpellsRow rows (subst (AreSpelled SpellsRow rows) (none_is read.rows parts.0) spelled)) ∙ none_behind_rows lives read sound lived parts.1
+    ap (λ rs. map row_line rs ++ behind_rows lives read) (none_spelled SpellsRow rows (subst (AreSpelled SpellsRow rows) (none_is read.rows parts.0) spelled))
+    ∙ none_behind_rows lives read sound lived parts.1
 
-none_behind_conf : (rows : List (List ℕ)) (lives : List (List Line)) (read : LinesRead) → IsSound read → AreSpelled SpellsRow rows read.rows → AreLives lives read → before_interfaces read ≡ true → behind_conf rows lives read ≡ []
+none_behind_conf : (rows : List (List ℕ)) (lives : List (List Line)) (read : LinesRead) → IsSound read → AreSpelled SpellsRow rows read.rows
+    → AreLives lives read → before_interfaces read ≡ true → behind_conf rows lives read ≡ []
 none_behind_conf rows lives read sound spelled lived e =
     let parts = and_parts (none_of read.ifaces) (before_rows read) e in
-    ap (λ is. map interface_text is ++ behind_ifaces rows lives read) (none_is read.ifaces parts.0) ∙ none_behind_ifaces rows lives read sound spelled lived parts.1
+    ap (λ is. map interface_text is ++ behind_ifaces rows lives read) (none_is read.ifaces parts.0)
+    ∙ none_behind_ifaces rows lives read sound spelled lived parts.1
 
 -- nothing stands behind interfaces, so that their number may change
 lives_of_none : (read : LinesRead) → IsSound read → before_rows read ≡ true → before_lives read ≡ true
@@ -159,23 +163,32 @@ one_more lines old new line same are is more = ap (λ ls. ls ++ line ∷ []) are
 abbrev Grows : List Line → Line → LinesRead → Type 0
 Grows lines line next = AfterLines next (lines ++ line ∷ [])
 
-word_grows : {X : Type 0} {text_of : X → List ℕ} {Fits : X → Type 0} {found : List ℕ → Option X} (lines : List Line) (word : Word) (rest : List ℕ) (next : LinesRead) (make : X → LinesRead) → Reads text_of Fits found
-    → ((x : X) → Fits x → Grows lines (word_text word ++ 32 ∷ text_of x) (make x)) → option_map make (after_blank found rest) ≡ Some next → Grows lines (word_text word ++ rest) next
+word_grows : {X : Type 0} {text_of : X → List ℕ} {Fits : X → Type 0} {found : List ℕ → Option X} (lines : List Line) (word : Word) (rest : List ℕ)
+    (next : LinesRead) (make : X → LinesRead)
+    → Reads text_of Fits found
+    → ((x : X) → Fits x → Grows lines (word_text word ++ 32 ∷ text_of x) (make x)) → option_map make (after_blank found rest) ≡ Some next
+    → Grows lines (word_text word ++ rest) next
 word_grows {found = found} lines word rest next make law grows e =
     let m = mapped make (after_blank found rest) next e in
     let r = (word_reads (codes " ") law).sound rest m.value m.was in
     subst (Grows lines (word_text word ++ rest)) m.gives (subst (λ t. Grows lines (word_text word ++ t) (make m.value)) (sym r.0) (grows m.value r.1))
 
-tested_grows : {X : Type 0} {text_of : X → List ℕ} {Fits : X → Type 0} {found : List ℕ → Option X} (lines : List Line) (word : Word) (rest : List ℕ) (next : LinesRead) (test : X → Bool) (make : X → LinesRead) → Reads text_of Fits found
-    → ((x : X) → Fits x → test x ≡ true → Grows lines (word_text word ++ 32 ∷ text_of x) (make x)) → option_map make (guarded test (after_blank found rest)) ≡ Some next → Grows lines (word_text word ++ rest) next
+tested_grows : {X : Type 0} {text_of : X → List ℕ} {Fits : X → Type 0} {found : List ℕ → Option X} (lines : List Line) (word : Word) (rest : List ℕ)
+    (next : LinesRead) (test : X → Bool) (make : X → LinesRead)
+    → Reads text_of Fits found
+    → ((x : X) → Fits x → test x ≡ true → Grows lines (word_text word ++ 32 ∷ text_of x) (make x))
+    → option_map make (guarded test (after_blank found rest)) ≡ Some next → Grows lines (word_text word ++ rest) next
 tested_grows {found = found} lines word rest next test make law grows e =
     let m = mapped make (guarded test (after_blank found rest)) next e in
     let g = guard_passed test (after_blank found rest) m.value m.was in
     let r = (word_reads (codes " ") law).sound rest m.value g.0 in
     subst (Grows lines (word_text word ++ rest)) m.gives (subst (λ t. Grows lines (word_text word ++ t) (make m.value)) (sym r.0) (grows m.value r.1 g.1))
 
-found_grows : {X : Type 0} {Spells : List ℕ → X → Type 0} {found : List ℕ → Option X} (lines : List Line) (word : Word) (rest : List ℕ) (next : LinesRead) (test : X → Bool) (make : X → LinesRead) → Finds Spells found
-    → ((text : List ℕ) (x : X) → Spells text x → test x ≡ true → Grows lines (word_text word ++ 32 ∷ text) (make x)) → option_map make (guarded test (after_blank found rest)) ≡ Some next → Grows lines (word_text word ++ rest) next
+found_grows : {X : Type 0} {Spells : List ℕ → X → Type 0} {found : List ℕ → Option X} (lines : List Line) (word : Word) (rest : List ℕ) (next : LinesRead)
+    (test : X → Bool) (make : X → LinesRead)
+    → Finds Spells found
+    → ((text : List ℕ) (x : X) → Spells text x → test x ≡ true → Grows lines (word_text word ++ 32 ∷ text) (make x))
+    → option_map make (guarded test (after_blank found rest)) ≡ Some next → Grows lines (word_text word ++ rest) next
 found_grows {found = found} lines word rest next test make law grows e =
     let m = mapped make (guarded test (after_blank found rest)) next e in
     let g = guard_passed test (after_blank found rest) m.value m.was in
@@ -193,13 +206,16 @@ conf_free : (text : List ℕ) → is_text (codes "c:" ++ text) ≡ true → Lack
 unfolding is_text strip_word
 conf_free text e = e
 
-conf_grows : (read : LinesRead) (lines : List Line) (text : List ℕ) (next : LinesRead) → AfterLines read lines → is_text (word_text Conf ++ text) ≡ true → before_interfaces read ≡ true
+conf_grows : (read : LinesRead) (lines : List Line) (text : List ℕ) (next : LinesRead) → AfterLines read lines → is_text (word_text Conf ++ text) ≡ true
+    → before_interfaces read ≡ true
     → Some (record read { conf = read.conf ++ ended text }) ≡ Some next → Grows lines (word_text Conf ++ text) next
 conf_grows read lines text next after is comes e =
     let sound = after.sound in
     let free = all_join (Lacks 10) (conf_lines read.conf) (text ∷ []) sound.conf (conf_free text is, tt) in
-    let joined : read.conf ++ ended text ≡ flat_map ended (conf_lines read.conf ++ text ∷ []) = ap (λ c. c ++ ended text) sound.holds ∙ sym (lines_ended (conf_lines read.conf) text) in
-    let grown : conf_lines (read.conf ++ ended text) ≡ conf_lines read.conf ++ text ∷ [] = ap conf_lines joined ∙ conf_lines_of (conf_lines read.conf ++ text ∷ []) free in
+    let joined : read.conf ++ ended text ≡ flat_map ended (conf_lines read.conf ++ text ∷ []) =
+    ap (λ c. c ++ ended text) sound.holds ∙ sym (lines_ended (conf_lines read.conf) text) in
+    let grown : conf_lines (read.conf ++ ended text) ≡ conf_lines read.conf ++ text ∷ [] =
+    ap conf_lines joined ∙ conf_lines_of (conf_lines read.conf ++ text ∷ []) free in
     let rest = behind_conf after.rows after.lives read in
     subst (Grows lines (word_text Conf ++ text)) (some_same e) (record {
       rows = after.rows;
@@ -207,7 +223,9 @@ conf_grows read lines text next after is comes e =
       lives = after.lives;
       lived = after.lived;
       are = one_more lines (script_lines after.rows after.lives (script_in read)) _ (conf_line text) (conf_line text) after.are refl
-          (ap (λ ls. head_line ∷ ls) (line_more conf_line (conf_lines read.conf) text rest (none_behind_conf after.rows after.lives read sound after.spelled after.lived comes) ∙ ap (λ ts. map conf_line ts ++ rest) (sym grown)));
+          (ap (λ ls. head_line ∷ ls)
+          (line_more conf_line (conf_lines read.conf) text rest (none_behind_conf after.rows after.lives read sound after.spelled after.lived comes)
+          ∙ ap (λ ts. map conf_line ts ++ rest) (sym grown)));
       sound = record {
         conf = subst (AllByRecursion (Lacks 10)) (sym grown) free;
         holds = joined ∙ ap (flat_map ended) (sym grown);
@@ -225,7 +243,8 @@ conf_grows read lines text next after is comes e =
 
 -- ---- interfaces, rows, files, calls that fail and answers of hooks
 
-iface_grows : (read : LinesRead) (lines : List Line) (spec : IfSpec) → AfterLines read lines → before_rows read ≡ true → FitsSpec spec → fits_next read.ifaces spec ≡ true
+iface_grows : (read : LinesRead) (lines : List Line) (spec : IfSpec) → AfterLines read lines → before_rows read ≡ true → FitsSpec spec
+    → fits_next read.ifaces spec ≡ true
     → Grows lines (word_text Interface ++ 32 ∷ spec_text spec) (record read { ifaces = read.ifaces ++ spec ∷ [] })
 iface_grows read lines spec after comes fits test =
     let sound = after.sound in
@@ -256,7 +275,8 @@ iface_grows read lines spec after comes fits test =
       };
     }
 
-row_grows : (read : LinesRead) (lines : List Line) (text : List ℕ) (row : HostRow) → AfterLines read lines → before_files read ≡ true → SpellsRow text row → IsRow row → is_new_row read.rows row ≡ true
+row_grows : (read : LinesRead) (lines : List Line) (text : List ℕ) (row : HostRow) → AfterLines read lines → before_files read ≡ true → SpellsRow text row
+    → IsRow row → is_new_row read.rows row ≡ true
     → Grows lines (row_line text) (record read { rows = read.rows ++ row ∷ [] })
 row_grows read lines text row after comes spells fits test =
     let sound = after.sound in
@@ -285,7 +305,8 @@ row_grows read lines text row after comes spells fits test =
       };
     }
 
-file_grows : (read : LinesRead) (lines : List Line) (file : StoreFile) → AfterLines read lines → before_fails read ≡ true → FitsFile file → is_new_file read.files file ≡ true
+file_grows : (read : LinesRead) (lines : List Line) (file : StoreFile) → AfterLines read lines → before_fails read ≡ true → FitsFile file
+    → is_new_file read.files file ≡ true
     → Grows lines (word_text File ++ 32 ∷ file_words file) (record read { files = read.files ++ file ∷ [] })
 file_grows read lines file after comes fits test =
     let sound = after.sound in
@@ -307,7 +328,9 @@ file_grows read lines file after comes fits test =
         rows = sound.rows;
         once = sound.once;
         files = all_join FitsFile read.files (file ∷ []) sound.files (fits, tt);
-        unlike = pairs_more UnlikeNames read.files file sound.unlike (new_unlike read.files file (not-true (is_member is_name (map file_name read.files) file.name) test));
+        unlike =
+            pairs_more UnlikeNames read.files file sound.unlike
+            (new_unlike read.files file (not-true (is_member is_name (map file_name read.files) file.name) test));
         fails = sound.fails;
         polls = sound.polls;
         past = sound.past;
@@ -381,7 +404,8 @@ poll_grows read lines answer after comes fits =
 -- ---- lives
 
 -- a line more of the lives
-lives_grow : (rows : List (List ℕ)) (lives grown : List (List Line)) (read : LinesRead) (lines : List Line) (line same : Line) → lines ≡ script_lines rows lives (script_in read) → line ≡ same
+lives_grow : (rows : List (List ℕ)) (lives grown : List (List Line)) (read : LinesRead) (lines : List Line) (line same : Line)
+    → lines ≡ script_lines rows lives (script_in read) → line ≡ same
     → lives_lines lives ++ same ∷ [] ≡ lives_lines grown → lines ++ line ∷ [] ≡ script_lines rows grown (script_in read)
 lives_grow rows lives grown read lines line same are is more =
     one_more lines (script_lines rows lives (script_in read)) _ line same are is
@@ -392,7 +416,8 @@ lives_grow rows lives grown read lines line same are is more =
     (behind (map fail_text read.fails) (behind_fails lives read) _ same
     (behind (map hook_text read.polls) (lives_lines lives) _ same more)))))))
 
-with_lives : (read : LinesRead) (past : List LifeScript) (last : Option LifeRead) → IsSound read → AllByRecursion (HasPassed (length read.ifaces)) past → FitsLast (length read.ifaces) past last
+with_lives : (read : LinesRead) (past : List LifeScript) (last : Option LifeRead) → IsSound read → AllByRecursion (HasPassed (length read.ifaces)) past
+    → FitsLast (length read.ifaces) past last
     → IsSound (record read { past = past; last = last })
 with_lives read past last sound passed fits = record {
   conf = sound.conf;
@@ -414,7 +439,8 @@ record GrownLast (lives : List (List Line)) (line : Line) (lasting : List LifeSc
   lived : AreSpelled SpellsLife grown lasting
   more : lives_lines lives ++ line ∷ [] ≡ lives_lines grown
 
-last_grows : (past : List LifeScript) (old new : LifeScript) (line : Line) → ((lines : List Line) → SpellsLife lines old → SpellsLife (lines ++ line ∷ []) new) → (lives : List (List Line)) → AreSpelled SpellsLife lives (past ++ old ∷ []) → GrownLast lives line (past ++ new ∷ [])
+last_grows : (past : List LifeScript) (old new : LifeScript) (line : Line) → ((lines : List Line) → SpellsLife lines old → SpellsLife (lines ++ line ∷ []) new)
+    → (lives : List (List Line)) → AreSpelled SpellsLife lives (past ++ old ∷ []) → GrownLast lives line (past ++ new ∷ [])
 last_grows [] old new line grows [] lived = absurd lived
 last_grows [] old new line grows (lines ∷ []) lived = record {
   grown = (lines ++ line ∷ []) ∷ [];
@@ -427,7 +453,8 @@ last_grows (life ∷ past) old new line grows (lines ∷ lives) lived =
     let later = last_grows past old new line grows lives lived.1 in
     record { grown = lines ∷ later.grown; lived = (lived.0, later.lived); more = behind lines (lives_lines lives) (lives_lines later.grown) line later.more }
 
-passed_lives : (count : ℕ) (past : List LifeScript) (last : Option LifeRead) → AllByRecursion (HasPassed count) past → FitsLast count past last → may_begin last ≡ true → AllByRecursion (HasPassed count) (past ++ last_life last)
+passed_lives : (count : ℕ) (past : List LifeScript) (last : Option LifeRead) → AllByRecursion (HasPassed count) past → FitsLast count past last
+    → may_begin last ≡ true → AllByRecursion (HasPassed count) (past ++ last_life last)
 passed_lives count past None passed fits may = all_join (HasPassed count) past [] passed tt
 passed_lives count past (Some read) passed fits may = all_join (HasPassed count) past (read.life ∷ []) passed ((fits.0, may), tt)
 
@@ -441,7 +468,8 @@ begun_fits count begin fits = record {
   crash = tt;
 }
 
-pub start_grows : (read : LinesRead) (lines : List Line) (begin : Begin) → AfterLines read lines → may_begin read.last ≡ true → FitsBegin (length read.ifaces) begin
+pub start_grows : (read : LinesRead) (lines : List Line) (begin : Begin) → AfterLines read lines → may_begin read.last ≡ true
+    → FitsBegin (length read.ifaces) begin
     → Grows lines (word_text Start ++ 32 ∷ begin_words begin) (with_start read begin)
 start_grows read lines begin after comes fits =
     let sound = after.sound in
@@ -451,21 +479,27 @@ start_grows read lines begin after comes fits =
       spelled = after.spelled;
       lives = after.lives ++ first ∷ [];
       lived = spelled_more SpellsLife after.lives (lives_in read) first (begun begin).life after.lived (record { turns = []; spelled = tt; are = refl });
-      are = lives_grow after.rows after.lives (after.lives ++ first ∷ []) read lines _ (start_text begin) after.are (sym (begin_spelled begin)) (sym (flat_map-append (λ ls. ls) after.lives (first ∷ [])));
-      sound = with_lives read (lives_in read) (Some (begun begin)) sound (passed_lives (length read.ifaces) read.past read.last sound.past sound.last comes) (begun_fits (length read.ifaces) begin fits, refl);
+      are =
+          lives_grow after.rows after.lives (after.lives ++ first ∷ []) read lines _ (start_text begin) after.are (sym (begin_spelled begin))
+          (sym (flat_map-append (λ ls. ls) after.lives (first ∷ [])));
+      sound =
+          with_lives read (lives_in read) (Some (begun begin)) sound (passed_lives (length read.ifaces) read.past read.last sound.past sound.last comes)
+          (begun_fits (length read.ifaces) begin fits, refl);
     }
 
 no_crash : (crash : Option CrashScript) → not (is_some crash) ≡ true → crash ≡ None
 no_crash None e = refl
 no_crash (Some crash) e = cc
 
-in_time_more : (clock : _) (turns : List Given) (given : Given) → is_in_time clock turns ≡ true → not (is_over (clock_through clock turns)) ≡ true → is_in_time clock (turns ++ given ∷ []) ≡ true
+in_time_more : (clock : _) (turns : List Given) (given : Given) → is_in_time clock turns ≡ true → not (is_over (clock_through clock turns)) ≡ true
+    → is_in_time clock (turns ++ given ∷ []) ≡ true
 in_time_more clock [] given e on = and_from _ _ on refl
 in_time_more clock (turn ∷ turns) given e on =
     let parts = and_parts (not (is_over clock)) _ e in
     and_from _ _ parts.0 (in_time_more (clock_after clock turn.wake) turns given parts.1 on)
 
-pub through_more : (clock : _) (turns : List Given) (given : Given) → clock_through clock (turns ++ given ∷ []) ≡ clock_after (clock_through clock turns) given.wake
+pub through_more : (clock : _) (turns : List Given) (given : Given)
+    → clock_through clock (turns ++ given ∷ []) ≡ clock_after (clock_through clock turns) given.wake
 through_more clock [] given = refl
 through_more clock (turn ∷ turns) given = through_more (clock_after clock turn.wake) turns given
 
@@ -476,7 +510,9 @@ turn_more turns line none e =
     ∙ sym (append-nil (turns ++ line ∷ []))
     ∙ ap (λ t. (turns ++ line ∷ []) ++ t) (sym e)
 
-turn_last : (past : List LifeScript) (last : Option LifeRead) (line : Line) (given : Given) → SpellsGiven line given → is_going_on last ≡ true → (lives : List (List Line)) → AreSpelled SpellsLife lives (past ++ last_life last) → GrownLast lives line (past ++ last_life (option_map (with_turn given) last))
+turn_last : (past : List LifeScript) (last : Option LifeRead) (line : Line) (given : Given) → SpellsGiven line given → is_going_on last ≡ true
+    → (lives : List (List Line)) → AreSpelled SpellsLife lives (past ++ last_life last)
+    → GrownLast lives line (past ++ last_life (option_map (with_turn given) last))
 turn_last past None line given spells on = cc
 turn_last past (Some read) line given spells on =
     let life = read.life in
@@ -488,25 +524,33 @@ turn_last past (Some read) line given spells on =
       are = ap (λ ls. ls ++ line ∷ []) is.are ∙ ap (λ ls. start_text life.begin ∷ ls) (turn_more is.turns line (crash_lines life.crash) (ap crash_lines none));
     })
 
-turn_fits : (count : ℕ) (past : List LifeScript) (last : Option LifeRead) (given : Given) → FitsLast count past last → is_going_on last ≡ true → FitsGiven 64 given → is_listed count given.wake.event ≡ true → FitsLast count past (option_map (with_turn given) last)
+turn_fits : (count : ℕ) (past : List LifeScript) (last : Option LifeRead) (given : Given) → FitsLast count past last → is_going_on last ≡ true
+    → FitsGiven 64 given → is_listed count given.wake.event ≡ true → FitsLast count past (option_map (with_turn given) last)
 turn_fits count past None given fits on given_fits listed = cc
 turn_fits count past (Some read) given fits on given_fits listed =
     let life = read.life in
     let old = fits.0 in
-    let going : not (is_over (clock_through (clock_at life.begin.at) life.turns)) ≡ true = subst (λ c. not (is_over c) ≡ true) fits.1 (and_parts (not (is_some life.crash)) _ on).1 in
-    let next : FitsGiven count given = record { at = given_fits.at; salt = given_fits.salt; event = listed_sound count given.wake.event given_fits.event listed; bytes = given_fits.bytes } in (
+    let going : not (is_over (clock_through (clock_at life.begin.at) life.turns)) ≡ true =
+    subst (λ c. not (is_over c) ≡ true) fits.1 (and_parts (not (is_some life.crash)) _ on).1 in
+    let next : FitsGiven count given =
+    record { at = given_fits.at; salt = given_fits.salt; event = listed_sound count given.wake.event given_fits.event listed; bytes = given_fits.bytes } in (
       record {
         at = old.at;
         salt = old.salt;
         up = old.up;
-        turns = All-from_recursion (FitsGiven count) (life.turns ++ given ∷ []) (all_join (FitsGiven count) life.turns (given ∷ []) (by_recursion (FitsGiven count) life.turns old.turns) (next, tt));
-        over = in_time_sound (life.turns ++ given ∷ []) life.begin.at (in_time_more (clock_at life.begin.at) life.turns given (in_time_whole life.turns life.begin.at old.over) going);
+        turns =
+            All-from_recursion (FitsGiven count) (life.turns ++ given ∷ [])
+            (all_join (FitsGiven count) life.turns (given ∷ []) (by_recursion (FitsGiven count) life.turns old.turns) (next, tt));
+        over =
+            in_time_sound (life.turns ++ given ∷ []) life.begin.at
+            (in_time_more (clock_at life.begin.at) life.turns given (in_time_whole life.turns life.begin.at old.over) going);
         crash = old.crash;
       },
       ap (λ c. clock_after c given.wake) fits.1 ∙ sym (through_more (clock_at life.begin.at) life.turns given),
     )
 
-pub turn_grows : (read : LinesRead) (lines : List Line) (text : List ℕ) (given : Given) → AfterLines read lines → is_going_on read.last ≡ true → SpellsTurn text given → is_listed (length read.ifaces) given.wake.event ≡ true
+pub turn_grows : (read : LinesRead) (lines : List Line) (text : List ℕ) (given : Given) → AfterLines read lines → is_going_on read.last ≡ true
+    → SpellsTurn text given → is_listed (length read.ifaces) given.wake.event ≡ true
     → Grows lines (word_text Turn ++ 32 ∷ text) (with_last read (with_turn given))
 turn_grows read lines text given after comes spells listed =
     let sound = after.sound in
@@ -517,10 +561,13 @@ turn_grows read lines text given after comes spells listed =
       lives = last.grown;
       lived = last.lived;
       are = lives_grow after.rows after.lives last.grown read lines _ (codes "turn " ++ text) after.are refl last.more;
-      sound = with_lives read read.past (option_map (with_turn given) read.last) sound sound.past (turn_fits (length read.ifaces) read.past read.last given sound.last comes spells.fits listed);
+      sound =
+          with_lives read read.past (option_map (with_turn given) read.last) sound sound.past
+          (turn_fits (length read.ifaces) read.past read.last given sound.last comes spells.fits listed);
     }
 
-crash_last : (past : List LifeScript) (last : Option LifeRead) (crash : CrashScript) → has_begun last ≡ true → (lives : List (List Line)) → AreSpelled SpellsLife lives (past ++ last_life last) → GrownLast lives (crash_text crash) (past ++ last_life (option_map (with_crash crash) last))
+crash_last : (past : List LifeScript) (last : Option LifeRead) (crash : CrashScript) → has_begun last ≡ true → (lives : List (List Line))
+    → AreSpelled SpellsLife lives (past ++ last_life last) → GrownLast lives (crash_text crash) (past ++ last_life (option_map (with_crash crash) last))
 crash_last past None crash on = cc
 crash_last past (Some read) crash on =
     let life = read.life in
@@ -530,10 +577,13 @@ crash_last past (Some read) crash on =
     (λ lines is. record {
       turns = is.turns;
       spelled = is.spelled;
-      are = ap (λ ls. ls ++ line ∷ []) is.are ∙ ap (λ ls. start_text life.begin ∷ ls) (ap (λ c. (is.turns ++ crash_lines c) ++ line ∷ []) none ∙ ap (λ ls. ls ++ line ∷ []) (append-nil is.turns));
+      are =
+          ap (λ ls. ls ++ line ∷ []) is.are
+          ∙ ap (λ ls. start_text life.begin ∷ ls) (ap (λ c. (is.turns ++ crash_lines c) ++ line ∷ []) none ∙ ap (λ ls. ls ++ line ∷ []) (append-nil is.turns));
     })
 
-crash_fits : (count : ℕ) (past : List LifeScript) (last : Option LifeRead) (crash : CrashScript) → FitsLast count past last → has_begun last ≡ true → FitsCrash crash → FitsLast count past (option_map (with_crash crash) last)
+crash_fits : (count : ℕ) (past : List LifeScript) (last : Option LifeRead) (crash : CrashScript) → FitsLast count past last → has_begun last ≡ true
+    → FitsCrash crash → FitsLast count past (option_map (with_crash crash) last)
 crash_fits count past None crash fits on crash_fit = cc
 crash_fits count past (Some read) crash fits on crash_fit =
     let old = fits.0 in
@@ -550,12 +600,15 @@ crash_grows read lines crash after comes fits =
       lives = last.grown;
       lived = last.lived;
       are = lives_grow after.rows after.lives last.grown read lines _ (crash_text crash) after.are (sym (crash_spelled crash)) last.more;
-      sound = with_lives read read.past (option_map (with_crash crash) read.last) sound sound.past (crash_fits (length read.ifaces) read.past read.last crash sound.last comes fits);
+      sound =
+          with_lives read read.past (option_map (with_crash crash) read.last) sound sound.past
+          (crash_fits (length read.ifaces) read.past read.last crash sound.last comes fits);
     }
 
 -- ---- every line
 
-grows : (read : LinesRead) (lines : List Line) (word : Word) (rest : List ℕ) (next : LinesRead) → AfterLines read lines → is_text (word_text word ++ rest) ≡ true → may_come read word ≡ true → with_line read word rest ≡ Some next → Grows lines (word_text word ++ rest) next
+grows : (read : LinesRead) (lines : List Line) (word : Word) (rest : List ℕ) (next : LinesRead) → AfterLines read lines
+    → is_text (word_text word ++ rest) ≡ true → may_come read word ≡ true → with_line read word rest ≡ Some next → Grows lines (word_text word ++ rest) next
 unfolding with_line
 grows read lines Head rest next after text comes e = absurd (none-some next e)
 grows read lines Conf rest next after text comes e = conf_grows read lines rest next after text comes e
@@ -569,18 +622,22 @@ grows read lines File rest next after text comes e =
     tested_grows lines File rest next (is_new_file read.files) (λ file. record read { files = read.files ++ file ∷ [] }) file_reads
     (λ file fits test. file_grows read lines file after comes fits test) e
 grows read lines Fail rest next after text comes e =
-    word_grows lines Fail rest next (λ fail. record read { fails = read.fails ++ fail ∷ [] }) fail_reads (λ fail fits. fail_grows read lines fail after comes fits) e
+    word_grows lines Fail rest next (λ fail. record read { fails = read.fails ++ fail ∷ [] }) fail_reads
+    (λ fail fits. fail_grows read lines fail after comes fits) e
 grows read lines Hook rest next after text comes e =
-    word_grows lines Hook rest next (λ answer. record read { polls = read.polls ++ answer ∷ [] }) poll_reads (λ answer fits. poll_grows read lines answer after comes fits) e
+    word_grows lines Hook rest next (λ answer. record read { polls = read.polls ++ answer ∷ [] }) poll_reads
+    (λ answer fits. poll_grows read lines answer after comes fits) e
 grows read lines Start rest next after text comes e =
-    word_grows lines Start rest next (with_start read) (begin_reads (length read.ifaces) (let few = after.sound.ifaces.few in few)) (λ begin fits. start_grows read lines begin after comes fits) e
+    word_grows lines Start rest next (with_start read) (begin_reads (length read.ifaces) (let few = after.sound.ifaces.few in few))
+    (λ begin fits. start_grows read lines begin after comes fits) e
 grows read lines Turn rest next after text comes e =
     found_grows lines Turn rest next (λ given. is_listed (length read.ifaces) given.wake.event) (λ given. with_last read (with_turn given)) turn_finds
     (λ words given spells listed. turn_grows read lines words given after comes spells listed) e
 grows read lines Crash rest next after text comes e =
     word_grows lines Crash rest next (λ crash. with_last read (with_crash crash)) crash_reads (λ crash fits. crash_grows read lines crash after comes fits) e
 
-pub taken : (read : LinesRead) (lines : List Line) (line : Line) (next : LinesRead) → AfterLines read lines → step_after read line ≡ Some next → AfterLines next (lines ++ line ∷ [])
+pub taken : (read : LinesRead) (lines : List Line) (line : Line) (next : LinesRead) → AfterLines read lines → step_after read line ≡ Some next
+    → AfterLines next (lines ++ line ∷ [])
 taken read lines line next after e =
     let is = taken_is read line next e in
     let spelled : line ≡ word_text is.known.0 ++ is.known.1 = word_is line is.known is.word in

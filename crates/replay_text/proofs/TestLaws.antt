@@ -30,7 +30,8 @@ counted_sound index (spec ∷ specs) fits e =
     let parts = and_parts (eqb spec.index.number index) _ e in
     (eqb-true _ _ parts.0, fits.0.name, fits.0.mac, counted_sound (index + 1) specs fits.1 parts.1)
 
-counted_whole : (index : ℕ) (specs : List IfSpec) → 1 ≤ index → index + length specs ≤ 65 → CountsFrom index specs → AllByRecursion FitsSpec specs × (counts_from index specs ≡ true)
+counted_whole : (index : ℕ) (specs : List IfSpec) → 1 ≤ index → index + length specs ≤ 65 → CountsFrom index specs
+    → AllByRecursion FitsSpec specs × (counts_from index specs ≡ true)
 counted_whole index [] some few counts = (tt, refl)
 counted_whole index (spec ∷ specs) some few counts =
     let others = counted_whole (index + 1) specs (omega arith) (omega arith) counts.3 in

@@ -59,7 +59,8 @@ use Rattle.replay_text.proofs.WordLaws.{blank_word, conf_word}
 
 -- ---- one line
 
-pub line_step : (read : LinesRead) (line : Line) (word : Word) (rest : List ℕ) (next : LinesRead) → is_text line ≡ true → word_at line ≡ Some (word, rest) → may_come read word ≡ true → with_line read word rest ≡ Some next → step (Some read) line ≡ Some (Some next)
+pub line_step : (read : LinesRead) (line : Line) (word : Word) (rest : List ℕ) (next : LinesRead) → is_text line ≡ true → word_at line ≡ Some (word, rest)
+    → may_come read word ≡ true → with_line read word rest ≡ Some next → step (Some read) line ≡ Some (Some next)
 unfolding step_after
 line_step read line word rest next text is comes grown = rw (text, is, comes, grown) refl
 
@@ -77,14 +78,18 @@ printed_text Turn said only = only
 printed_text Crash said only = only
 printed_text Conf said only = no_feed_in said only
 
-pub word_line : (read : LinesRead) (line : Line) (word : Word) (said : List ℕ) (next : LinesRead) → line ≡ word_text word ++ 32 ∷ said → is_text (word_text word ++ 32 ∷ said) ≡ true → may_come read word ≡ true → with_line read word (32 ∷ said) ≡ Some next → step (Some read) line ≡ Some (Some next)
+pub word_line : (read : LinesRead) (line : Line) (word : Word) (said : List ℕ) (next : LinesRead) → line ≡ word_text word ++ 32 ∷ said
+    → is_text (word_text word ++ 32 ∷ said) ≡ true → may_come read word ≡ true → with_line read word (32 ∷ said) ≡ Some next
+    → step (Some read) line ≡ Some (Some next)
 word_line read line word said next spelled text comes grown =
     ap (step (Some read)) spelled ∙ line_step read (word_text word ++ 32 ∷ said) word (32 ∷ said) next text (blank_word word said) comes grown
 
-guarded_whole : {X : Type 0} {text_of : X → List ℕ} {Fits : X → Type 0} {found : List ℕ → Option X} (test : X → Bool) (x : X) → Reads text_of Fits found → Fits x → test x ≡ true → guarded test (after_blank found (32 ∷ text_of x)) ≡ Some x
+guarded_whole : {X : Type 0} {text_of : X → List ℕ} {Fits : X → Type 0} {found : List ℕ → Option X} (test : X → Bool) (x : X) → Reads text_of Fits found
+    → Fits x → test x ≡ true → guarded test (after_blank found (32 ∷ text_of x)) ≡ Some x
 guarded_whole test x law fits passes = ap (guarded test) ((word_reads (codes " ") law).whole x fits) ∙ ap (λ b. cond b (Some x) None) passes
 
-found_whole : {X : Type 0} {Spells : List ℕ → X → Type 0} {found : List ℕ → Option X} (test : X → Bool) (text : List ℕ) (x : X) → Finds Spells found → Spells text x → test x ≡ true → guarded test (after_blank found (32 ∷ text)) ≡ Some x
+found_whole : {X : Type 0} {Spells : List ℕ → X → Type 0} {found : List ℕ → Option X} (test : X → Bool) (text : List ℕ) (x : X) → Finds Spells found
+    → Spells text x → test x ≡ true → guarded test (after_blank found (32 ∷ text)) ≡ Some x
 found_whole {found = found} test text x law spells passes =
     ap (guarded test) (ap (option_and_then found) (strip_whole (codes " ") text) ∙ law.whole text x spells) ∙ ap (λ b. cond b (Some x) None) passes
 
@@ -100,7 +105,8 @@ blocks line_of put Fit law done (x ∷ xs) fit =
     ∙ ap (λ d. Some (Some (put d))) (append_assoc done (x ∷ []) xs)
 
 -- what follows lines that were taken
-follow : (lines more : List Line) (s t : Option LinesRead) (end : Option (Option LinesRead)) → run step lines s ≡ Some t → run step more t ≡ end → run step (lines ++ more) s ≡ end
+follow : (lines more : List Line) (s t : Option LinesRead) (end : Option (Option LinesRead)) → run step lines s ≡ Some t → run step more t ≡ end
+    → run step (lines ++ more) s ≡ end
 follow lines more s t end first others = run_more step lines more s t first ∙ others
 
 abbrev lines_at : List ℕ → List IfSpec → List HostRow → List StoreFile → List FailLine → List (Option Poll) → List LifeScript → Option LifeRead → LinesRead
@@ -112,10 +118,12 @@ unfolding is_text strip_word
 conf_text text free = free
 
 conf_step : (done : List (List ℕ)) (text : List ℕ) (later : List (List ℕ)) → AllByRecursion (Lacks 10) (done ++ text ∷ later)
-    → step (Some (lines_at (flat_map ended done) [] [] [] [] [] [] None)) (conf_line text) ≡ Some (Some (lines_at (flat_map ended (done ++ text ∷ [])) [] [] [] [] [] [] None))
+    → step (Some (lines_at (flat_map ended done) [] [] [] [] [] [] None)) (conf_line text)
+    ≡ Some (Some (lines_at (flat_map ended (done ++ text ∷ [])) [] [] [] [] [] [] None))
 unfolding with_line
 conf_step done text later free =
-    line_step (lines_at (flat_map ended done) [] [] [] [] [] [] None) (conf_line text) Conf text (lines_at (flat_map ended (done ++ text ∷ [])) [] [] [] [] [] [] None)
+    line_step (lines_at (flat_map ended done) [] [] [] [] [] [] None) (conf_line text) Conf text
+    (lines_at (flat_map ended (done ++ text ∷ [])) [] [] [] [] [] [] None)
     (conf_text text (all_next (Lacks 10) done text later free)) (conf_word text) refl
     (ap (λ c. Some (lines_at c [] [] [] [] [] [] None)) (sym (lines_ended done text)))
 
@@ -141,7 +149,8 @@ iface_step conf done spec later fit =
     (spec_spelled spec) (printed_text Interface (spec_text spec) (spec_printable spec fits)) (and_from _ _ (lt-ltb _ _ room) refl)
     (ap (option_map (λ s. lines_at conf (done ++ s ∷ []) [] [] [] [] [] None)) (guarded_whole (fits_next done) spec spec_reads fits are.test))
 
-row_step : (conf : List ℕ) (ifaces : List IfSpec) (done : List HostRow) (text : List ℕ) (row : HostRow) (later : List HostRow) → SpellsRow text row → IsRow row → length (in_row_order (done ++ row ∷ later)) ≡ length (done ++ row ∷ later)
+row_step : (conf : List ℕ) (ifaces : List IfSpec) (done : List HostRow) (text : List ℕ) (row : HostRow) (later : List HostRow) → SpellsRow text row → IsRow row
+    → length (in_row_order (done ++ row ∷ later)) ≡ length (done ++ row ∷ later)
     → step (Some (lines_at conf ifaces done [] [] [] [] None)) (row_line text) ≡ Some (Some (lines_at conf ifaces (done ++ row ∷ []) [] [] [] [] None))
 unfolding with_line
 row_step conf ifaces done text row later spells is once =
@@ -150,44 +159,56 @@ row_step conf ifaces done text row later spells is once =
     refl (printed_text Row text (spelled_printable text row is spells)) refl
     (ap (option_map (λ r. lines_at conf ifaces (done ++ r ∷ []) [] [] [] [] None)) (found_whole (is_new_row done) text row row_finds (spells, is) new))
 
-rows_run : (conf : List ℕ) (ifaces : List IfSpec) (done : List HostRow) (texts : List (List ℕ)) (rows : List HostRow) → AreSpelled SpellsRow texts rows → AllByRecursion IsRow rows → length (in_row_order (done ++ rows)) ≡ length (done ++ rows)
+rows_run : (conf : List ℕ) (ifaces : List IfSpec) (done : List HostRow) (texts : List (List ℕ)) (rows : List HostRow) → AreSpelled SpellsRow texts rows
+    → AllByRecursion IsRow rows → length (in_row_order (done ++ rows)) ≡ length (done ++ rows)
     → run step (map row_line texts) (Some (lines_at conf ifaces done [] [] [] [] None)) ≡ Some (Some (lines_at conf ifaces (done ++ rows) [] [] [] [] None))
 rows_run conf ifaces done [] [] spelled are once = ap (λ d. Some (Some (lines_at conf ifaces d [] [] [] [] None))) (sym (append-nil done))
 rows_run conf ifaces done [] (row ∷ rows) spelled are once = absurd spelled
 rows_run conf ifaces done (text ∷ texts) [] spelled are once = absurd spelled
 rows_run conf ifaces done (text ∷ texts) (row ∷ rows) spelled are once =
     ap (option_and_then (run step (map row_line texts))) (row_step conf ifaces done text row rows spelled.0 are.0 once)
-    ∙ rows_run conf ifaces (done ++ row ∷ []) texts rows spelled.1 are.1 (subst (λ rs. length (in_row_order rs) ≡ length rs) (sym (append_assoc done (row ∷ []) rows)) once)
+    ∙ rows_run conf ifaces (done ++ row ∷ []) texts rows spelled.1 are.1
+    (subst (λ rs. length (in_row_order rs) ≡ length rs) (sym (append_assoc done (row ∷ []) rows)) once)
     ∙ ap (λ d. Some (Some (lines_at conf ifaces d [] [] [] [] None))) (append_assoc done (row ∷ []) rows)
 
 abbrev FitFiles : List StoreFile → Type 0
 FitFiles files = AllByRecursion FitsFile files × AllPairs UnlikeNames files
 
-file_step : (conf : List ℕ) (ifaces : List IfSpec) (rows : List HostRow) (done : List StoreFile) (file : StoreFile) (later : List StoreFile) → FitFiles (done ++ file ∷ later)
+file_step : (conf : List ℕ) (ifaces : List IfSpec) (rows : List HostRow) (done : List StoreFile) (file : StoreFile) (later : List StoreFile)
+    → FitFiles (done ++ file ∷ later)
     → step (Some (lines_at conf ifaces rows done [] [] [] None)) (file_text file) ≡ Some (Some (lines_at conf ifaces rows (done ++ file ∷ []) [] [] [] None))
 unfolding with_line
 file_step conf ifaces rows done file later fit =
     let fits : FitsFile file = all_next FitsFile done file later fit.0 in
     let new : is_new_file done file ≡ true = ap not (unlike_new done file (pairs_next UnlikeNames done file later fit.1)) in
-    word_line (lines_at conf ifaces rows done [] [] [] None) (file_text file) File (file_words file) (lines_at conf ifaces rows (done ++ file ∷ []) [] [] [] None)
+    word_line (lines_at conf ifaces rows done [] [] [] None) (file_text file) File (file_words file)
+    (lines_at conf ifaces rows (done ++ file ∷ []) [] [] [] None)
     (file_spelled file) (printed_text File (file_words file) (file_printable file fits)) refl
     (ap (option_map (λ f. lines_at conf ifaces rows (done ++ f ∷ []) [] [] [] None)) (guarded_whole (is_new_file done) file file_reads fits new))
 
-fail_step : (conf : List ℕ) (ifaces : List IfSpec) (rows : List HostRow) (files : List StoreFile) (done : List FailLine) (fail : FailLine) (later : List FailLine) → AllByRecursion FitsFail (done ++ fail ∷ later)
-    → step (Some (lines_at conf ifaces rows files done [] [] None)) (fail_text fail) ≡ Some (Some (lines_at conf ifaces rows files (done ++ fail ∷ []) [] [] None))
+fail_step : (conf : List ℕ) (ifaces : List IfSpec) (rows : List HostRow) (files : List StoreFile) (done : List FailLine) (fail : FailLine)
+    (later : List FailLine)
+    → AllByRecursion FitsFail (done ++ fail ∷ later)
+    → step (Some (lines_at conf ifaces rows files done [] [] None)) (fail_text fail)
+    ≡ Some (Some (lines_at conf ifaces rows files (done ++ fail ∷ []) [] [] None))
 unfolding with_line
 fail_step conf ifaces rows files done fail later fit =
     let fits : FitsFail fail = all_next FitsFail done fail later fit in
-    word_line (lines_at conf ifaces rows files done [] [] None) (fail_text fail) Fail (fail_words fail) (lines_at conf ifaces rows files (done ++ fail ∷ []) [] [] None)
+    word_line (lines_at conf ifaces rows files done [] [] None) (fail_text fail) Fail (fail_words fail)
+    (lines_at conf ifaces rows files (done ++ fail ∷ []) [] [] None)
     (fail_spelled fail) (printed_text Fail (fail_words fail) (fail_printable fail fits)) refl
     (ap (option_map (λ f. lines_at conf ifaces rows files (done ++ f ∷ []) [] [] None)) ((word_reads (codes " ") fail_reads).whole fail fits))
 
-poll_step : (conf : List ℕ) (ifaces : List IfSpec) (rows : List HostRow) (files : List StoreFile) (fails : List FailLine) (done : List (Option Poll)) (answer : Option Poll) (later : List (Option Poll)) → AllByRecursion FitsAnswer (done ++ answer ∷ later)
-    → step (Some (lines_at conf ifaces rows files fails done [] None)) (hook_text answer) ≡ Some (Some (lines_at conf ifaces rows files fails (done ++ answer ∷ []) [] None))
+poll_step : (conf : List ℕ) (ifaces : List IfSpec) (rows : List HostRow) (files : List StoreFile) (fails : List FailLine) (done : List (Option Poll))
+    (answer : Option Poll) (later : List (Option Poll))
+    → AllByRecursion FitsAnswer (done ++ answer ∷ later)
+    → step (Some (lines_at conf ifaces rows files fails done [] None)) (hook_text answer)
+    ≡ Some (Some (lines_at conf ifaces rows files fails (done ++ answer ∷ []) [] None))
 unfolding with_line
 poll_step conf ifaces rows files fails done answer later fit =
     let fits : FitsAnswer answer = all_next FitsAnswer done answer later fit in
-    word_line (lines_at conf ifaces rows files fails done [] None) (hook_text answer) Hook (poll_text answer) (lines_at conf ifaces rows files fails (done ++ answer ∷ []) [] None)
+    word_line (lines_at conf ifaces rows files fails done [] None) (hook_text answer) Hook (poll_text answer)
+    (lines_at conf ifaces rows files fails (done ++ answer ∷ []) [] None)
     refl (printed_text Hook (poll_text answer) (poll_printable answer fits)) refl
     (ap (option_map (λ a. lines_at conf ifaces rows files fails (done ++ a ∷ []) [] None)) ((word_reads (codes " ") poll_reads).whole answer fits))
 
@@ -206,23 +227,28 @@ life_so_far life turns = record {
 abbrev whole_life : LifeScript → LifeRead
 whole_life life = record { life = life; clock = clock_through (clock_at life.begin.at) life.turns }
 
-start_step : (read : LinesRead) (past : List LifeScript) (last : Option LifeRead) (life : LifeScript) → length read.ifaces ≤ 64 → may_begin last ≡ true → FitsLife (length read.ifaces) life
+start_step : (read : LinesRead) (past : List LifeScript) (last : Option LifeRead) (life : LifeScript) → length read.ifaces ≤ 64 → may_begin last ≡ true
+    → FitsLife (length read.ifaces) life
     → step (Some (with_lives read past last)) (start_text life.begin) ≡ Some (Some (with_lives read (past ++ last_life last) (Some (life_so_far life []))))
 unfolding with_line
 start_step read past last life few may fits =
     let begin : FitsBegin (length read.ifaces) life.begin = record { at = fits.at; salt = fits.salt; up = fits.up } in
-    word_line (with_lives read past last) (start_text life.begin) Start (begin_words life.begin) (with_lives read (past ++ last_life last) (Some (life_so_far life [])))
+    word_line (with_lives read past last) (start_text life.begin) Start (begin_words life.begin)
+    (with_lives read (past ++ last_life last) (Some (life_so_far life [])))
     (begin_spelled life.begin) (printed_text Start (begin_words life.begin) (begin_printable (length read.ifaces) life.begin few begin)) may
     (ap (option_map (with_start (with_lives read past last))) ((word_reads (codes " ") (begin_reads (length read.ifaces) few)).whole life.begin begin))
 
-going_on : (clock : _) (done : List Given) (given : Given) (later : List Given) → is_in_time clock (done ++ given ∷ later) ≡ true → not (is_over (clock_through clock done)) ≡ true
+going_on : (clock : _) (done : List Given) (given : Given) (later : List Given) → is_in_time clock (done ++ given ∷ later) ≡ true
+    → not (is_over (clock_through clock done)) ≡ true
 going_on clock [] given later e = (and_parts (not (is_over clock)) _ e).0
 going_on clock (turn ∷ done) given later e = going_on (clock_after clock turn.wake) done given later (and_parts (not (is_over clock)) _ e).1
 
 abbrev FitTurns : ℕ → ℕ → List Given → Type 0
 FitTurns count at turns = AllByRecursion (FitsGiven count) turns × (is_in_time (clock_at at) turns ≡ true)
 
-turn_step : (read : LinesRead) (past : List LifeScript) (life : LifeScript) → length read.ifaces ≤ 64 → (done : List Given) (line : Line) (given : Given) (later : List Given) → SpellsGiven line given → FitTurns (length read.ifaces) life.begin.at (done ++ given ∷ later)
+turn_step : (read : LinesRead) (past : List LifeScript) (life : LifeScript) → length read.ifaces ≤ 64
+    → (done : List Given) (line : Line) (given : Given) (later : List Given) → SpellsGiven line given
+    → FitTurns (length read.ifaces) life.begin.at (done ++ given ∷ later)
     → step (Some (with_lives read past (Some (life_so_far life done)))) line ≡ Some (Some (with_lives read past (Some (life_so_far life (done ++ given ∷ [])))))
 unfolding with_line
 turn_step read past life few done line given later spells fit =
@@ -230,41 +256,58 @@ turn_step read past life few done line given later spells fit =
     let fits : FitsGiven count given = all_next (FitsGiven count) done given later fit.0 in
     let listed = listed_whole count given.wake.event few fits.event in
     let words = turn_words given spells.event in
-    let turn : SpellsTurn words given = record { event = spells.event; spelled = refl; spells = spells.spells; fits = record { at = fits.at; salt = fits.salt; event = listed.0; bytes = fits.bytes } } in
+    let turn : SpellsTurn words given =
+    record {
+      event = spells.event;
+      spelled = refl;
+      spells = spells.spells;
+      fits = record { at = fits.at; salt = fits.salt; event = listed.0; bytes = fits.bytes };
+    }
+    in
     word_line (with_lives read past (Some (life_so_far life done))) line Turn words (with_lives read past (Some (life_so_far life (done ++ given ∷ []))))
     (turn_spelled line given spells) (printed_text Turn words (turn_printable words given turn)) (going_on (clock_at life.begin.at) done given later fit.1)
-    (ap (option_map (λ g. with_last (with_lives read past (Some (life_so_far life done))) (with_turn g))) (found_whole (λ g. is_listed count g.wake.event) words given turn_finds turn listed.1)
-    ∙ ap (λ c. Some (with_lives read past (Some (record { life = record { begin = life.begin; turns = done ++ given ∷ []; crash = None }; clock = c })))) (sym (through_more (clock_at life.begin.at) done given)))
+    (ap (option_map (λ g. with_last (with_lives read past (Some (life_so_far life done))) (with_turn g)))
+    (found_whole (λ g. is_listed count g.wake.event) words given turn_finds turn listed.1)
+    ∙ ap (λ c. Some (with_lives read past (Some (record { life = record { begin = life.begin; turns = done ++ given ∷ []; crash = None }; clock = c }))))
+    (sym (through_more (clock_at life.begin.at) done given)))
 
-turns_run : (read : LinesRead) (past : List LifeScript) (life : LifeScript) → length read.ifaces ≤ 64 → (done : List Given) (lines : List Line) (turns : List Given) → AreSpelled SpellsGiven lines turns → FitTurns (length read.ifaces) life.begin.at (done ++ turns)
+turns_run : (read : LinesRead) (past : List LifeScript) (life : LifeScript) → length read.ifaces ≤ 64
+    → (done : List Given) (lines : List Line) (turns : List Given) → AreSpelled SpellsGiven lines turns
+    → FitTurns (length read.ifaces) life.begin.at (done ++ turns)
     → run step lines (Some (with_lives read past (Some (life_so_far life done)))) ≡ Some (Some (with_lives read past (Some (life_so_far life (done ++ turns)))))
 turns_run read past life few done [] [] spelled fit = ap (λ d. Some (Some (with_lives read past (Some (life_so_far life d))))) (sym (append-nil done))
 turns_run read past life few done [] (given ∷ turns) spelled fit = absurd spelled
 turns_run read past life few done (line ∷ lines) [] spelled fit = absurd spelled
 turns_run read past life few done (line ∷ lines) (given ∷ turns) spelled fit =
     ap (option_and_then (run step lines)) (turn_step read past life few done line given turns spelled.0 fit)
-    ∙ turns_run read past life few (done ++ given ∷ []) lines turns spelled.1 (subst (FitTurns (length read.ifaces) life.begin.at) (sym (append_assoc done (given ∷ []) turns)) fit)
+    ∙ turns_run read past life few (done ++ given ∷ []) lines turns spelled.1
+    (subst (FitTurns (length read.ifaces) life.begin.at) (sym (append_assoc done (given ∷ []) turns)) fit)
     ∙ ap (λ d. Some (Some (with_lives read past (Some (life_so_far life d))))) (append_assoc done (given ∷ []) turns)
 
 crash_step : (read : LinesRead) (past : List LifeScript) (life : LifeScript) (crash : Option CrashScript) → IfSome crash FitsCrash
-    → run step (crash_lines crash) (Some (with_lives read past (Some (life_so_far life life.turns)))) ≡ Some (Some (with_lives read past (Some (whole_life (record life { crash = crash })))))
+    → run step (crash_lines crash) (Some (with_lives read past (Some (life_so_far life life.turns))))
+    ≡ Some (Some (with_lives read past (Some (whole_life (record life { crash = crash })))))
 unfolding with_line
 crash_step read past life None fits = refl
 crash_step read past life (Some crash) fits =
     ap (option_and_then (run step []))
-    (word_line (with_lives read past (Some (life_so_far life life.turns))) (crash_text crash) Crash (crash_words crash) (with_lives read past (Some (whole_life (record life { crash = Some crash }))))
+    (word_line (with_lives read past (Some (life_so_far life life.turns))) (crash_text crash) Crash (crash_words crash)
+    (with_lives read past (Some (whole_life (record life { crash = Some crash }))))
     (crash_spelled crash) (printed_text Crash (crash_words crash) (crash_printable crash fits)) refl
     (ap (option_map (λ c. with_last (with_lives read past (Some (life_so_far life life.turns))) (with_crash c))) ((word_reads (codes " ") crash_reads).whole crash fits)))
 
-life_run : (read : LinesRead) (past : List LifeScript) (last : Option LifeRead) (lines : List Line) (life : LifeScript) → SpellsLife lines life → length read.ifaces ≤ 64 → may_begin last ≡ true → FitsLife (length read.ifaces) life
+life_run : (read : LinesRead) (past : List LifeScript) (last : Option LifeRead) (lines : List Line) (life : LifeScript) → SpellsLife lines life
+    → length read.ifaces ≤ 64 → may_begin last ≡ true → FitsLife (length read.ifaces) life
     → run step lines (Some (with_lives read past last)) ≡ Some (Some (with_lives read (past ++ last_life last) (Some (whole_life life))))
 life_run read past last lines life spells few may fits =
     let count = length read.ifaces in
     let gone = past ++ last_life last in
     ap (λ ls. run step ls (Some (with_lives read past last))) spells.are
     ∙ ap (option_and_then (run step (spells.turns ++ crash_lines life.crash))) (start_step read past last life few may fits)
-    ∙ follow spells.turns (crash_lines life.crash) (Some (with_lives read gone (Some (life_so_far life [])))) (Some (with_lives read gone (Some (life_so_far life life.turns)))) _
-    (turns_run read gone life few [] spells.turns life.turns spells.spelled (by_recursion (FitsGiven count) life.turns fits.turns, in_time_whole life.turns life.begin.at fits.over))
+    ∙ follow spells.turns (crash_lines life.crash) (Some (with_lives read gone (Some (life_so_far life []))))
+    (Some (with_lives read gone (Some (life_so_far life life.turns)))) _
+    (turns_run read gone life few [] spells.turns life.turns spells.spelled
+    (by_recursion (FitsGiven count) life.turns fits.turns, in_time_whole life.turns life.begin.at fits.over))
     (crash_step read gone life life.crash fits.crash)
 
 -- ---- the lives
@@ -275,7 +318,9 @@ record LivesRun (read : LinesRead) (past : List LifeScript) (last : Option LifeR
   runs : run step (lives_lines lines) (Some (with_lives read past last)) ≡ Some (Some (with_lives read gone (Some life)))
   are : gone ++ life.life ∷ [] ≡ (past ++ last_life last) ++ lives
 
-lives_run : (read : LinesRead) (past : List LifeScript) (last : Option LifeRead) (lines : List (List Line)) (life : LifeScript) (lives : List LifeScript) → AreSpelled SpellsLife lines (life ∷ lives) → length read.ifaces ≤ 64 → may_begin last ≡ true → AllByRecursion (FitsLife (length read.ifaces)) (life ∷ lives) → CrashBetween (life ∷ lives)
+lives_run : (read : LinesRead) (past : List LifeScript) (last : Option LifeRead) (lines : List (List Line)) (life : LifeScript) (lives : List LifeScript)
+    → AreSpelled SpellsLife lines (life ∷ lives) → length read.ifaces ≤ 64 → may_begin last ≡ true
+    → AllByRecursion (FitsLife (length read.ifaces)) (life ∷ lives) → CrashBetween (life ∷ lives)
     → LivesRun read past last lines (life ∷ lives)
 lives_run read past last [] life lives lived few may fits parted = absurd lived
 lives_run read past last (first ∷ []) life [] lived few may fits parted = record {
@@ -287,11 +332,15 @@ lives_run read past last (first ∷ []) life [] lived few may fits parted = reco
 lives_run read past last (first ∷ (second ∷ lines)) life [] lived few may fits parted = absurd lived.1
 lives_run read past last (first ∷ lines) life (next ∷ lives) lived few may fits parted =
     let gone = past ++ last_life last in
-    let others = lives_run read gone (Some (whole_life life)) lines next lives lived.1 few (parted 0 1 life (omega arith) (omega arith)) fits.1 (pairs_tail (λ one later. IsTrue (is_some one.crash)) life (next ∷ lives) parted) in
+    let others =
+    lives_run read gone (Some (whole_life life)) lines next lives lived.1 few (parted 0 1 life (omega arith) (omega arith)) fits.1
+    (pairs_tail (λ one later. IsTrue (is_some one.crash)) life (next ∷ lives) parted) in
     record {
       gone = others.gone;
       life = others.life;
-      runs = follow first (lives_lines lines) (Some (with_lives read past last)) (Some (with_lives read gone (Some (whole_life life)))) _ (life_run read past last first life lived.0 few may fits.0) others.runs;
+      runs =
+          follow first (lives_lines lines) (Some (with_lives read past last)) (Some (with_lives read gone (Some (whole_life life)))) _
+          (life_run read past last first life lived.0 few may fits.0) others.runs;
       are = others.are ∙ append_assoc gone (life ∷ []) (next ∷ lives);
     }
 
@@ -304,35 +353,59 @@ pub record WholeOf (rows : List (List ℕ)) (lives : List (List Line)) (script :
   pub conf : read.conf ≡ flat_map ended script.conf
   pub some : is_some read.last ≡ true
 
-same_script : (script : ScriptLines) (conf : List (List ℕ)) (lives : List LifeScript) → conf ≡ script.conf → lives ≡ script.lives → record script { conf = conf; lives = lives } ≡ script
+same_script : (script : ScriptLines) (conf : List (List ℕ)) (lives : List LifeScript) → conf ≡ script.conf → lives ≡ script.lives
+    → record script { conf = conf; lives = lives } ≡ script
 same_script script conf lives texts are = ap (λ c. record script { conf = c; lives = lives }) texts ∙ ap (λ ls. record script { lives = ls }) are
 
-with_life : (rows : List (List ℕ)) (lines : List (List Line)) (script : ScriptLines) → AreSpelled SpellsRow rows script.rows → AreSpelled SpellsLife lines script.lives → FitsScript script → (life : LifeScript) (lives : List LifeScript) → script.lives ≡ life ∷ lives → WholeOf rows lines script
+with_life : (rows : List (List ℕ)) (lines : List (List Line)) (script : ScriptLines) → AreSpelled SpellsRow rows script.rows
+    → AreSpelled SpellsLife lines script.lives → FitsScript script → (life : LifeScript) (lives : List LifeScript) → script.lives ≡ life ∷ lives
+    → WholeOf rows lines script
 with_life rows lines script spelled lived fits life lives first =
     let conf = flat_map ended script.conf in
     let few = fits.ifaces.few in
     let free = by_recursion (Lacks 10) script.conf fits.conf in
     let base : LinesRead = lines_at conf script.ifaces script.rows script.files script.fails script.polls [] None in
     let count = length script.ifaces in
-    let each : AllByRecursion (FitsLife count) (life ∷ lives) = subst (AllByRecursion (FitsLife count)) first (by_recursion (FitsLife count) script.lives fits.lives) in
-    let of_lives = lives_run base [] None lines life lives (subst (AreSpelled SpellsLife lines) first lived) few refl each (subst CrashBetween first fits.parted) in
+    let each : AllByRecursion (FitsLife count) (life ∷ lives) =
+    subst (AllByRecursion (FitsLife count)) first (by_recursion (FitsLife count) script.lives fits.lives) in
+    let of_lives =
+    lives_run base [] None lines life lives (subst (AreSpelled SpellsLife lines) first lived) few refl each (subst CrashBetween first fits.parted) in
     let end : Option (Option LinesRead) = Some (Some (with_lives base of_lives.gone (Some of_lives.life))) in
-    let polls_end = follow (map hook_text script.polls) (lives_lines lines) (Some (lines_at conf script.ifaces script.rows script.files script.fails [] [] None)) (Some base) end
-    (blocks hook_text (λ polls. lines_at conf script.ifaces script.rows script.files script.fails polls [] None) (AllByRecursion FitsAnswer) (poll_step conf script.ifaces script.rows script.files script.fails) [] script.polls (by_recursion FitsAnswer script.polls fits.polls))
+    let polls_end =
+    follow (map hook_text script.polls) (lives_lines lines) (Some (lines_at conf script.ifaces script.rows script.files script.fails [] [] None))
+    (Some base) end
+    (blocks hook_text (λ polls. lines_at conf script.ifaces script.rows script.files script.fails polls [] None) (AllByRecursion FitsAnswer)
+    (poll_step conf script.ifaces script.rows script.files script.fails) [] script.polls (by_recursion FitsAnswer script.polls fits.polls))
     of_lives.runs in
-    let fails_end = follow (map fail_text script.fails) (map hook_text script.polls ++ lives_lines lines) (Some (lines_at conf script.ifaces script.rows script.files [] [] [] None)) (Some (lines_at conf script.ifaces script.rows script.files script.fails [] [] None)) end
-    (blocks fail_text (λ fails. lines_at conf script.ifaces script.rows script.files fails [] [] None) (AllByRecursion FitsFail) (fail_step conf script.ifaces script.rows script.files) [] script.fails (by_recursion FitsFail script.fails fits.fails))
+    let fails_end =
+    follow (map fail_text script.fails) (map hook_text script.polls ++ lives_lines lines)
+    (Some (lines_at conf script.ifaces script.rows script.files [] [] [] None))
+    (Some (lines_at conf script.ifaces script.rows script.files script.fails [] [] None)) end
+    (blocks fail_text (λ fails. lines_at conf script.ifaces script.rows script.files fails [] [] None) (AllByRecursion FitsFail)
+    (fail_step conf script.ifaces script.rows script.files) [] script.fails (by_recursion FitsFail script.fails fits.fails))
     polls_end in
-    let files_end = follow (map file_text script.files) (map fail_text script.fails ++ (map hook_text script.polls ++ lives_lines lines)) (Some (lines_at conf script.ifaces script.rows [] [] [] [] None)) (Some (lines_at conf script.ifaces script.rows script.files [] [] [] None)) end
-    (blocks file_text (λ files. lines_at conf script.ifaces script.rows files [] [] [] None) FitFiles (file_step conf script.ifaces script.rows) [] script.files (by_recursion FitsFile script.files fits.files, fits.unlike))
+    let files_end =
+    follow (map file_text script.files) (map fail_text script.fails ++ (map hook_text script.polls ++ lives_lines lines))
+    (Some (lines_at conf script.ifaces script.rows [] [] [] [] None)) (Some (lines_at conf script.ifaces script.rows script.files [] [] [] None)) end
+    (blocks file_text (λ files. lines_at conf script.ifaces script.rows files [] [] [] None) FitFiles (file_step conf script.ifaces script.rows) [] script.files
+    (by_recursion FitsFile script.files fits.files, fits.unlike))
     fails_end in
-    let rows_end = follow (map row_line rows) (map file_text script.files ++ (map fail_text script.fails ++ (map hook_text script.polls ++ lives_lines lines))) (Some (lines_at conf script.ifaces [] [] [] [] [] None)) (Some (lines_at conf script.ifaces script.rows [] [] [] [] None)) end
+    let rows_end =
+    follow (map row_line rows) (map file_text script.files ++ (map fail_text script.fails ++ (map hook_text script.polls ++ lives_lines lines)))
+    (Some (lines_at conf script.ifaces [] [] [] [] [] None)) (Some (lines_at conf script.ifaces script.rows [] [] [] [] None)) end
     (rows_run conf script.ifaces [] rows script.rows spelled (by_recursion IsRow script.rows fits.rows) fits.once)
     files_end in
-    let ifaces_end = follow (map interface_text script.ifaces) (map row_line rows ++ (map file_text script.files ++ (map fail_text script.fails ++ (map hook_text script.polls ++ lives_lines lines)))) (Some (lines_at conf [] [] [] [] [] [] None)) (Some (lines_at conf script.ifaces [] [] [] [] [] None)) end
+    let ifaces_end =
+    follow (map interface_text script.ifaces)
+    (map row_line rows ++ (map file_text script.files ++ (map fail_text script.fails ++ (map hook_text script.polls ++ lives_lines lines))))
+    (Some (lines_at conf [] [] [] [] [] [] None)) (Some (lines_at conf script.ifaces [] [] [] [] [] None)) end
     (blocks interface_text (λ ifaces. lines_at conf ifaces [] [] [] [] [] None) FitInterfaces (iface_step conf) [] script.ifaces fits.ifaces)
     rows_end in
-    let conf_end = follow (map conf_line script.conf) (map interface_text script.ifaces ++ (map row_line rows ++ (map file_text script.files ++ (map fail_text script.fails ++ (map hook_text script.polls ++ lives_lines lines))))) (Some nothing_read) (Some (lines_at conf [] [] [] [] [] [] None)) end
+    let conf_end =
+    follow (map conf_line script.conf)
+    (map interface_text script.ifaces
+    ++ (map row_line rows ++ (map file_text script.files ++ (map fail_text script.fails ++ (map hook_text script.polls ++ lives_lines lines)))))
+    (Some nothing_read) (Some (lines_at conf [] [] [] [] [] [] None)) end
     (blocks conf_line (λ texts. lines_at (flat_map ended texts) [] [] [] [] [] [] None) (AllByRecursion (Lacks 10)) conf_step [] script.conf free)
     ifaces_end in
     record {
@@ -343,7 +416,8 @@ with_life rows lines script spelled lived fits life lives first =
       some = refl;
     }
 
-pub whole_of : (rows : List (List ℕ)) (lines : List (List Line)) (script : ScriptLines) → AreSpelled SpellsRow rows script.rows → AreSpelled SpellsLife lines script.lives → FitsScript script → WholeOf rows lines script
+pub whole_of : (rows : List (List ℕ)) (lines : List (List Line)) (script : ScriptLines) → AreSpelled SpellsRow rows script.rows
+    → AreSpelled SpellsLife lines script.lives → FitsScript script → WholeOf rows lines script
 whole_of rows lines script spelled lived fits = by script.lives refl
   where
     by : (lives : List LifeScript) → script.lives ≡ lives → WholeOf rows lines script

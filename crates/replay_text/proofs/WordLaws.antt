@@ -24,19 +24,27 @@ whole_is word rest known e = ap (λ (k : Known). word_text k.0 ++ k.1) (whole_by
 conf_is : IsOf (word_text Conf) (λ rest. Some (Conf, rest))
 conf_is rest known e = ap (λ (k : Known). word_text k.0 ++ k.1) (some_same e)
 
-choose_is : (choices : Choices Known) (line : Line) (known : Known) → AllByRecursion (λ c. IsOf c.0 c.1) choices → choose_at choices line ≡ Some known → line ≡ word_text known.0 ++ known.1
+choose_is : (choices : Choices Known) (line : Line) (known : Known) → AllByRecursion (λ c. IsOf c.0 c.1) choices → choose_at choices line ≡ Some known
+    → line ≡ word_text known.0 ++ known.1
 choose_is [] line known are e = absurd (none-some known e)
 choose_is (choice ∷ choices) line known are e = by (choose_is choices line known are.1) (strip_word choice.0 line) refl e
   where
-    by : (choose_at choices line ≡ Some known → line ≡ word_text known.0 ++ known.1) → (o : Option (List ℕ)) → strip_word choice.0 line ≡ o → by_word o choice.1 (choose_at choices line) ≡ Some known → line ≡ word_text known.0 ++ known.1
+    by : (choose_at choices line ≡ Some known → line ≡ word_text known.0 ++ known.1) → (o : Option (List ℕ)) → strip_word choice.0 line ≡ o
+        → by_word o choice.1 (choose_at choices line) ≡ Some known → line ≡ word_text known.0 ++ known.1
     by later None was q = later q
     by later (Some rest) was q = strip_sound choice.0 line rest was ∙ are.0 rest known q
 
 pub word_is : (line : Line) (known : Known) → word_at line ≡ Some known → line ≡ word_text known.0 ++ known.1
 unfolding word_at
 word_is line known e =
-    choose_is words line known
-    (whole_is Turn, (conf_is, (whole_is Interface, (whole_is Row, (whole_is File, (whole_is Fail, (whole_is Hook, (whole_is Start, (whole_is Crash, (whole_is Head, tt)))))))))) e
+    choose_is words line known (
+      whole_is Turn,
+      (
+        conf_is,
+        (whole_is Interface, (whole_is Row, (whole_is File, (whole_is Fail, (whole_is Hook, (whole_is Start, (whole_is Crash, (whole_is Head, tt)))))))),
+      ),
+    )
+    e
 
 -- ---- a line that begins with a word has it, or none
 

@@ -22,7 +22,8 @@ stop_after (Some stop) event now = Some stop
 stop_after None event now = if is_stop event then Some now else None
 
 abbrev pub clock_after : Clock → Wake → Clock
-clock_after clock wake = record { now = max clock.now wake.at; stop = stop_after clock.stop wake.event (max clock.now wake.at) }
+clock_after clock wake =
+    record { now = max clock.now wake.at; stop = stop_after clock.stop wake.event (max clock.now wake.at) }
 
 abbrev pub is_in_time : Clock → List Given → Bool
 is_in_time clock [] = true

@@ -21,7 +21,10 @@ interfaces_fit specs = nat_le (length specs) 64 && (counts_from 1 specs && all_u
 
 -- the keys are the names of the files
 abbrev pub AreNames : List (String Global) → List StoreFile → Type 0
-AreNames keys files = (q : String Global) → list_any (λ key. is_name (string_bytes q) (string_bytes key)) keys ≡ is_member is_name (map file_name files) (string_bytes q)
+AreNames keys files =
+    (q : String Global)
+    → list_any (λ key. is_name (string_bytes q) (string_bytes key)) keys
+    ≡ is_member is_name (map file_name files) (string_bytes q)
 
 abbrev pub is_listed : ℕ → Event → Bool
 is_listed count (Frame iface len) = nat_le iface count

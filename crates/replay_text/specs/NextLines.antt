@@ -59,11 +59,14 @@ unfoldable pub with_line : LinesRead → Word → List ℕ → Option LinesRead
 with_line read Head rest = None
 with_line read Conf rest = Some (record read { conf = read.conf ++ ended rest })
 with_line read Interface rest =
-    option_map (λ spec. record read { ifaces = read.ifaces ++ spec ∷ [] }) (guarded (fits_next read.ifaces) (after_blank spec_at rest))
+    option_map (λ spec. record read { ifaces = read.ifaces ++ spec ∷ [] })
+    (guarded (fits_next read.ifaces) (after_blank spec_at rest))
 with_line read Row rest =
-    option_map (λ row. record read { rows = read.rows ++ row ∷ [] }) (guarded (is_new_row read.rows) (after_blank row_at rest))
+    option_map (λ row. record read { rows = read.rows ++ row ∷ [] })
+    (guarded (is_new_row read.rows) (after_blank row_at rest))
 with_line read File rest =
-    option_map (λ file. record read { files = read.files ++ file ∷ [] }) (guarded (is_new_file read.files) (after_blank file_at rest))
+    option_map (λ file. record read { files = read.files ++ file ∷ [] })
+    (guarded (is_new_file read.files) (after_blank file_at rest))
 with_line read Fail rest =
     option_map (λ fail. record read { fails = read.fails ++ fail ∷ [] }) (after_blank fail_at rest)
 with_line read Hook rest =

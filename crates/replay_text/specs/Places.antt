@@ -34,8 +34,8 @@ is_in_order word lines = list_all (λ line. nat_le (rank_of (word_at line)) (ran
 abbrev pub interfaces_in : List Line → ℕ
 interfaces_in lines = length (filter (λ line. rank_of (word_at line) == rank Interface) lines)
 
--- A line of the word may stand after the lines: before the lives in the order of the kinds, and in a life where some script
--- goes on with it.
+-- A line of the word may stand after the lines: before the lives in the order of the kinds, and in a life where some
+-- script goes on with it.
 abbrev pub IsInPlace : List Line → Word → Type 0
 IsInPlace lines Head = ⊥
 IsInPlace lines Conf = IsTrue (is_in_order Conf lines)

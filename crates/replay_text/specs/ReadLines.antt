@@ -30,7 +30,8 @@ HasPassed count life = FitsLife count life × (is_some life.crash ≡ true)
 -- the last life, with its clock; before the first one none has passed
 abbrev pub FitsLast : ℕ → List LifeScript → Option LifeRead → Type 0
 FitsLast count past None = past ≡ []
-FitsLast count past (Some read) = FitsLife count read.life × (read.clock ≡ clock_through (clock_at read.life.begin.at) read.life.turns)
+FitsLast count past (Some read) =
+    FitsLife count read.life × (read.clock ≡ clock_through (clock_at read.life.begin.at) read.life.turns)
 
 pub record IsSound (read : LinesRead) : Type 0 where
   pub conf : AllByRecursion (Lacks 10) (conf_lines read.conf)

@@ -38,7 +38,8 @@ abbrev pub crash_of : CrashLine → CrashScript
 crash_of crash = record { calls = crash.calls; kind = crash.kind }
 
 abbrev pub life_of : LifeLines → LifeScript
-life_of life = record { begin = life.begin; turns = map given_of life.turns.items; crash = option_map crash_of life.crash }
+life_of life =
+    record { begin = life.begin; turns = map given_of life.turns.items; crash = option_map crash_of life.crash }
 
 abbrev pub script_of : Script → ScriptLines
 script_of script = record {

@@ -12,5 +12,6 @@ pub fn faults_are_one()
 
 /// A text is that of one script at most. This does nothing: its contract is the law.
 pub fn scripts_are_one()
-    ensures { (text : List ℕ) (one other : ScriptLines) → IsSpelled SpellsScript text one → IsSpelled SpellsScript text other → one ≡ other }
+    ensures { (text : List ℕ) (one other : ScriptLines) → IsSpelled SpellsScript text one
+        → IsSpelled SpellsScript text other → one ≡ other }
 {}

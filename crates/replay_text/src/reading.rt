@@ -82,8 +82,8 @@ impl LineState for ScriptState {
     }
 }
 
-/// The script that the text is one of, or the first bad line of a text that is none, with its cause. One pass, linear in
-/// the text, but that each row and file is looked up among those before it.
+/// The script that the text is one of, or the first bad line of a text that is none, with its cause. One pass, linear
+/// in the text, but that each row and file is looked up among those before it.
 pub fn read_script(alloc: Global, text: &[u8]) -> Result<Script, ScriptAnswer>
     ensures found { IfOk result (λ script. IsSpelled SpellsScript text.now (script_of script)) }
     // Each line of the configuration is there with its line feed.

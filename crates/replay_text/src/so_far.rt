@@ -203,7 +203,8 @@ impl LastLife {
 
 /// The lives with the last one.
 fn with_last_of(past: Vec<LifeLines>, last: Option<LastLife>) -> Result<Vec<LifeLines>, NoMemory>
-    ensures { IfOk result (λ lives. map life_of lives.items ≡ map life_of past.items ++ last_life (option_map life_read last)) }
+    ensures { IfOk result
+        (λ lives. map life_of lives.items ≡ map life_of past.items ++ last_life (option_map life_read last)) }
 {
     let mut lives = past;
     match last {
@@ -216,7 +217,8 @@ fn with_last_of(past: Vec<LifeLines>, last: Option<LastLife>) -> Result<Vec<Life
 }
 
 fn turned(last: Option<LastLife>, turn: TurnLine) -> Result<Option<LastLife>, NoMemory>
-    ensures { IfOk result (λ o. option_map life_read o ≡ option_map (with_turn (given_of turn)) (option_map life_read last)) }
+    ensures { IfOk result
+        (λ o. option_map life_read o ≡ option_map (with_turn (given_of turn)) (option_map life_read last)) }
 {
     match last {
         Some(last) => {
@@ -459,7 +461,9 @@ impl LinesSoFar {
     #[tactic(auto, unfolding(crate::specs::ScriptReading::step_after))]
     pub fn take(self, alloc: Global, line: &[u8]) -> Result<LinesSoFar, LineFault<ScriptCause>>
         ensures taken { IfOk result (λ next. step_after (lines_read self) line.now ≡ Some (lines_read next)) }
-        ensures bad { IfErr result (λ fault. Refuses (step_after (lines_read self) line.now) (cause_of (Some (lines_read self)) (Whole line.now)) fault) }
+        ensures bad { IfErr result
+            (λ fault. Refuses (step_after (lines_read self) line.now)
+            (cause_of (Some (lines_read self)) (Whole line.now)) fault) }
     {
         if !is_text(line) {
             return Err(LineFault::Bad(ScriptCause::NotText));
@@ -479,7 +483,8 @@ impl LinesSoFar {
     /// The script that ends here.
     pub fn end(self) -> Result<Script, LineFault<ScriptCause>>
         ensures ended { IfOk result (λ script. given_after (lines_read self) ≡ Some (script_said script)) }
-        ensures early { IfErr result (λ fault. Refuses (given_after (lines_read self)) (cause_of (Some (lines_read self)) End) fault) }
+        ensures early { IfErr result
+            (λ fault. Refuses (given_after (lines_read self)) (cause_of (Some (lines_read self)) End) fault) }
     {
         if self.before_lives() {
             return Err(LineFault::Bad(ScriptCause::Order));

@@ -204,7 +204,8 @@ impl UnlikeFiles {
 
     /// With one more, where none has its name.
     pub fn with_new(self, alloc: Global, file: FileLine) -> Result<Option<UnlikeFiles>, NoMemory>
-        ensures { IfOk result (λ next. next ≡ (if is_new_file self (file_of file) then Some (self ++ file_of file ∷ []) else None)) }
+        ensures { IfOk result
+            (λ next. next ≡ (if is_new_file self (file_of file) then Some (self ++ file_of file ∷ []) else None)) }
     {
         let UnlikeFiles {
             mut files,

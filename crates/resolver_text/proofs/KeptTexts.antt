@@ -29,7 +29,8 @@ module _ {A : Type 0} (says : List A → List (List ℕ)) (parted : IsParted say
   pub reads_no_more : limit ≤ length middle → KeepsOn limit (says xs) old middle
   reads_no_more full =
       subst (λ ys. KeepsOn limit (says ys) old middle) (take-append-drop i xs)
-      (rw (parted (take i xs) (drop i xs)) (keeps_both limit (says (take i xs)) (says (drop i xs)) old middle middle so_far (keeps_full limit (says (drop i xs)) middle full)))
+      (rw (parted (take i xs) (drop i xs))
+      (keeps_both limit (says (take i xs)) (says (drop i xs)) old middle middle so_far (keeps_full limit (says (drop i xs)) middle full)))
 
 pub filtered_parted : {A : Type 0} (f : A → List ℕ) (p : List ℕ → Bool) → IsParted (λ xs. filter p (map f xs))
 filtered_parted f p xs ys = rw (map-append f xs ys, filter-append p (map f xs) (map f ys)) refl
@@ -60,7 +61,8 @@ enough_views view limit kept full = rw (length-map kept view) full
 
 -- ---- a name that is tested
 
-module _ {A : Type 0} (view : A → List ℕ) (is_told : List ℕ → Bool) (limit : ℕ) (kept seen : List A) (text : List ℕ) (few : length kept < limit) (same : seen ≡ kept)
+module _ {A : Type 0} (view : A → List ℕ) (is_told : List ℕ → Bool) (limit : ℕ) (kept seen : List A) (text : List ℕ) (few : length kept < limit)
+    (same : seen ≡ kept)
     (answer : Bool) (given : answer ≡ list_any (λ x. bytes_eq (view x) text) seen) where
   pub name_again : answer ≡ true → KeepsOn limit (filter is_told (text ∷ [])) (map view kept) (map view kept)
   name_again e = by_case (is_told text)
@@ -73,5 +75,6 @@ module _ {A : Type 0} (view : A → List ℕ) (is_told : List ℕ → Bool) (lim
       → KeepsOn limit (filter is_told (text ∷ [])) (map view kept) (map view new)
   name_anew e told new one pushed is = rw told (told_anew view limit kept seen text few same answer given e new one pushed is)
 
-pub no_name : (is_told : List ℕ → Bool) (limit : ℕ) (kept : List (List ℕ)) (text : List ℕ) → is_told text ≡ false → KeepsOn limit (filter is_told (text ∷ [])) kept kept
+pub no_name : (is_told : List ℕ → Bool) (limit : ℕ) (kept : List (List ℕ)) (text : List ℕ) → is_told text ≡ false
+    → KeepsOn limit (filter is_told (text ∷ [])) kept kept
 no_name is_told limit kept text e = rw e (keeps_none limit kept)

@@ -32,4 +32,8 @@ pub whole_text : (parts ordered : List PartContent) (first_names first_servers :
     → middle ≡ lines_text (search_lines first_names) → text ≡ middle ++ lines_text (map server_line first_servers)
     → text ≡ resolver_text parts
 whole_text parts ordered first_names first_servers middle text a b c d e =
-    e ∙ rw (d, c, b, a) (sym (flat_map-append ended (search_lines (take SEARCH_LIMIT (unlike (flat_map part_names (in_order parts))))) (map server_line (take SERVER_LIMIT (unlike (flat_map part_servers (in_order parts)))))))
+    e
+    ∙ rw (d, c, b, a)
+    (sym
+    (flat_map-append ended (search_lines (take SEARCH_LIMIT (unlike (flat_map part_names (in_order parts)))))
+    (map server_line (take SERVER_LIMIT (unlike (flat_map part_servers (in_order parts)))))))

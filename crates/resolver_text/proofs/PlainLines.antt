@@ -129,7 +129,9 @@ record IsServerText (text : List ℕ) : Type 0 where
   spelled : text ≡ server_text name server
 
 servers_fit : (part : PartContent) → FitsPart part → AllByRecursion IsServerText (part_servers part)
-servers_fit part fit = all_mapped FitsServer IsServerText (server_text part.name) (λ server fits. record { name = part.name; server = server; named = fit.name; fits = fits; spelled = refl }) part.servers fit.servers
+servers_fit part fit =
+    all_mapped FitsServer IsServerText (server_text part.name)
+    (λ server fits. record { name = part.name; server = server; named = fit.name; fits = fits; spelled = refl }) part.servers fit.servers
 
 -- ---- lines
 

@@ -34,7 +34,8 @@ among_last text (first ∷ texts) = rest (bytes_eq first text) (among_last text 
     rest true among = refl
     rest false among = among
 
-module _ {A : Type 0} (view : A → List ℕ) (kept new : List A) (one : A) (pushed : new ≡ kept ++ one ∷ []) (told : List Server) (so_far : AreTold told (map view kept)) where
+module _ {A : Type 0} (view : A → List ℕ) (kept new : List A) (one : A) (pushed : new ≡ kept ++ one ∷ []) (told : List Server)
+    (so_far : AreTold told (map view kept)) where
   -- the same servers are told
   pub tells_more : AreTold told (map view new)
   tells_more =
@@ -61,7 +62,8 @@ among_told told seen texts server same so_far found =
 
 -- ---- a text that was printed, beside those of the servers before
 
-module _ {A : Type 0} (view : A → List ℕ) (limit : ℕ) (kept seen : List A) (texts : List (List ℕ)) (views : map view kept ≡ texts) (few : length texts < limit) (same : seen ≡ kept)
+module _ {A : Type 0} (view : A → List ℕ) (limit : ℕ) (kept seen : List A) (texts : List (List ℕ)) (views : map view kept ≡ texts) (few : length texts < limit)
+    (same : seen ≡ kept)
     (text spelled : List ℕ) (is : spelled ≡ text) (answer : Bool) (given : answer ≡ list_any (λ x. bytes_eq (view x) spelled) seen) where
   few_kept : length kept < limit
   few_kept = let all = length-map kept view in let alike = ap length views in omega (arith, few, all, alike)

@@ -28,7 +28,8 @@ like_sym text other false e = by_case (bytes_eq other text) refl
     by_case true f = let same : other ≡ text = (bytes_eq-Decides other text).0 f in absurd (differ same)
       where
         differ : other ≡ text → ⊥
-        differ same = let whole : bytes_eq text other ≡ true = (bytes_eq-Decides text other).1 (sym same) in let both : false ≡ true = sym e ∙ whole in absurd cc
+        differ same =
+            let whole : bytes_eq text other ≡ true = (bytes_eq-Decides text other).1 (sym same) in let both : false ≡ true = sym e ∙ whole in absurd cc
 
 -- what is unlike one text is among the others or not
 any_filtered : (text one : List ℕ) (texts : List (List ℕ)) → bytes_eq one text ≡ false
@@ -54,10 +55,12 @@ unlike_more (first ∷ texts) text =
     ap (λ rest. first ∷ filter (differs first) rest) (unlike_more texts text) ∙ by_case (list_any (is_like text) (unlike texts)) refl (bytes_eq first text) refl
   where
     by_case : (b : Bool) → list_any (is_like text) (unlike texts) ≡ b → (same : Bool) → bytes_eq first text ≡ same
-        → first ∷ filter (differs first) (with_one b (unlike texts) text) ≡ with_one (list_any (is_like text) (unlike (first ∷ texts))) (unlike (first ∷ texts)) text
+        → first ∷ filter (differs first) (with_one b (unlike texts) text)
+        ≡ with_one (list_any (is_like text) (unlike (first ∷ texts))) (unlike (first ∷ texts)) text
     by_case true any true e = rw e refl
     by_case true any false e = rw (e, any_filtered text first (unlike texts) e, any) refl
-    by_case false any true e = rw (e, filter-append (differs first) (unlike texts) (text ∷ []), like_sym first text true e) (ap (λ rest. first ∷ rest) (append-nil _))
+    by_case false any true e =
+        rw (e, filter-append (differs first) (unlike texts) (text ∷ []), like_sym first text true e) (ap (λ rest. first ∷ rest) (append-nil _))
     by_case false any false e =
         rw (e, any_filtered text first (unlike texts) e, any, filter-append (differs first) (unlike texts) (text ∷ []), like_sym first text false e) refl
 
@@ -97,7 +100,8 @@ module _ (limit : ℕ) (kept texts : List (List ℕ)) (so_far : kept ≡ take li
 pub keeps_none : (limit : ℕ) (kept : List (List ℕ)) → KeepsOn limit [] kept kept
 keeps_none limit kept texts so_far = rw (append-nil texts) so_far
 
-pub keeps_both : (limit : ℕ) (some more old middle new : List (List ℕ)) → KeepsOn limit some old middle → KeepsOn limit more middle new → KeepsOn limit (some ++ more) old new
+pub keeps_both : (limit : ℕ) (some more old middle new : List (List ℕ)) → KeepsOn limit some old middle → KeepsOn limit more middle new
+    → KeepsOn limit (some ++ more) old new
 keeps_both limit some more old middle new first then texts so_far =
     then (texts ++ some) (first texts so_far) ∙ ap (λ t. take limit (unlike t)) (append_assoc texts some more)
 
@@ -106,10 +110,12 @@ keeps_full limit [] kept full = keeps_none limit kept
 keeps_full limit (text ∷ more) kept full =
     keeps_both limit (text ∷ []) more kept kept kept (λ texts so_far. enough limit kept texts so_far text full) (keeps_full limit more kept full)
 
-pub keeps_old : (limit : ℕ) (text : List ℕ) (kept : List (List ℕ)) → length kept < limit → list_any (is_like text) kept ≡ true → KeepsOn limit (text ∷ []) kept kept
+pub keeps_old : (limit : ℕ) (text : List ℕ) (kept : List (List ℕ)) → length kept < limit → list_any (is_like text) kept ≡ true
+    → KeepsOn limit (text ∷ []) kept kept
 keeps_old limit text kept few among texts so_far = again limit kept texts so_far text few among
 
-pub keeps_new : (limit : ℕ) (text : List ℕ) (kept : List (List ℕ)) → length kept < limit → list_any (is_like text) kept ≡ false → KeepsOn limit (text ∷ []) kept (kept ++ text ∷ [])
+pub keeps_new : (limit : ℕ) (text : List ℕ) (kept : List (List ℕ)) → length kept < limit → list_any (is_like text) kept ≡ false
+    → KeepsOn limit (text ∷ []) kept (kept ++ text ∷ [])
 keeps_new limit text kept few among texts so_far = anew limit kept texts so_far text few among
 
 pub any_mapped : {A : Type 0} (f : A → List ℕ) (text : List ℕ) (xs : List A) → list_any (λ x. bytes_eq (f x) text) xs ≡ list_any (is_like text) (map f xs)
@@ -162,7 +168,8 @@ others_differ text (first ∷ texts) = by_case (others_differ text texts) (bytes
 texts_apart : (texts : List (List ℕ)) → AllPairs (λ one other. one ≢ other) (unlike texts)
 texts_apart [] = λ i j d low high. absurd (omega (arith, high))
 texts_apart (text ∷ texts) =
-    AllPairs-cons (λ one other. one ≢ other) text (filter (differs text) (unlike texts)) (others_differ text (unlike texts)) (AllPairs-filter (λ one other. one ≢ other) (differs text) (unlike texts) (texts_apart texts))
+    AllPairs-cons (λ one other. one ≢ other) text (filter (differs text) (unlike texts)) (others_differ text (unlike texts))
+    (AllPairs-filter (λ one other. one ≢ other) (differs text) (unlike texts) (texts_apart texts))
 
 pub texts_unlike : KeepUnlike
 texts_unlike texts = record { apart = texts_apart texts; same = λ text. any_unlike text texts }

@@ -25,7 +25,8 @@ pub record FitsPart (part : PartContent) : Type 0 where
 pub data IsResolverLine : Line → Type 0 where
   Searches : (names : List (List ℕ)) → names ≢ [] → AllByRecursion (λ name. IsTrue (is_name name)) names
       → IsResolverLine (search_line names)
-  Asks : (name : Name) (server : Server) → FitsName name → FitsServer server → IsResolverLine (server_line (server_text name server))
+  Asks : (name : Name) (server : Server) → FitsName name → FitsServer server
+      → IsResolverLine (server_line (server_text name server))
 
 -- the bytes are such lines: each is ended by a line feed, and no other line feed stands among them
 pub record HasResolverLines (text : List ℕ) : Type 0 where
@@ -47,7 +48,8 @@ HaveLimits = (parts : List PartContent) → AreFew parts
 -- no two alike, and a text is among them exactly where it was among all
 pub record AreUnlike (texts : List (List ℕ)) : Type 0 where
   pub apart : AllPairs (λ one other. one ≢ other) (unlike texts)
-  pub same : (text : List ℕ) → list_any (λ other. bytes_eq other text) (unlike texts) ≡ list_any (λ other. bytes_eq other text) texts
+  pub same : (text : List ℕ)
+      → list_any (λ other. bytes_eq other text) (unlike texts) ≡ list_any (λ other. bytes_eq other text) texts
 
 abbrev pub KeepUnlike : Type 0
 KeepUnlike = (texts : List (List ℕ)) → AreUnlike texts

@@ -13,4 +13,5 @@ needs_no_zone (V6 ip) = not (is_link_local ip)
 
 -- the text of each of the servers is among the texts, whatever the interface's name
 abbrev pub AreTold : List Server → List (List ℕ) → Type 0
-AreTold told texts = All (λ server. (name : Name) → list_any (λ other. bytes_eq other (server_text name server)) texts ≡ true) told
+AreTold told texts =
+    All (λ server. (name : Name) → list_any (λ other. bytes_eq other (server_text name server)) texts ≡ true) told

@@ -8,8 +8,9 @@ pub fn parts_are_ordered()
     ensures { AreOrdered }
 {}
 
-/// Each line of a text is a `search` line of names or a `nameserver` line of one address, whatever names the servers sent.
-/// There are no more names and servers than the limits say. Texts without duplicates are the same texts, no two alike.
+/// Each line of a text is a `search` line of names or a `nameserver` line of one address, whatever names the servers
+/// sent. There are no more names and servers than the limits say. Texts without duplicates are the same texts, no two
+/// alike.
 pub fn texts_are_lines()
     ensures lines { AreResolverLines }
     ensures limits { HaveLimits }

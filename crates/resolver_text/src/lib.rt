@@ -1,4 +1,5 @@
-//! The text of the resolver's file, `resolv.conf`: what the leases say of name servers and search domains (resolv.conf(5)).
+//! The text of the resolver's file, `resolv.conf`: what the leases say of name servers and search domains
+//! (resolv.conf(5)).
 //!
 //! `resolver` gives the text of parts; a part is what one lease, or one static address, says.
 #![tactic(auto)]

@@ -18,7 +18,9 @@ const SERVER_LIMIT: usize = 8;
 
 /// Appends the line of the names, where there is one.
 fn add_search(text: &mut String, names: &[&str]) -> Result<(), AllocError>
-    ensures { OnOk result (string_bytes text.new ≡ string_bytes text.old ++ lines_text (search_lines (map (λ name. name.now) names.now))) }
+    ensures { OnOk result
+        (string_bytes text.new
+        ≡ string_bytes text.old ++ lines_text (search_lines (map (λ name. name.now) names.now))) }
 {
     if names.is_empty() {
         return Ok(());
@@ -43,7 +45,9 @@ fn add_server(text: &mut String, server: &str) -> Result<(), AllocError>
 
 /// Appends a line for each server.
 fn add_servers(text: &mut String, servers: &[String]) -> Result<(), AllocError>
-    ensures { OnOk result (string_bytes text.new ≡ string_bytes text.old ++ lines_text (map server_line (map (λ server. string_bytes server) servers.now))) }
+    ensures { OnOk result
+        (string_bytes text.new
+        ≡ string_bytes text.old ++ lines_text (map server_line (map (λ server. string_bytes server) servers.now))) }
 {
     for server in servers {
         add_server(text, server.as_str())?;
@@ -51,10 +55,10 @@ fn add_servers(text: &mut String, servers: &[String]) -> Result<(), AllocError>
     Ok(())
 }
 
-/// The text of the resolver's file. The parts come by metric, then by index, then IPv4 before IPv6. Their names that are
-/// domain names make one `search` line, their servers a `nameserver` line each: the first 16 unlike names, and the first 8
-/// servers with unlike texts. A link-local server has its interface as zone (RFC 4007, section 11). The text is empty where
-/// there is neither.
+/// The text of the resolver's file. The parts come by metric, then by index, then IPv4 before IPv6. Their names that
+/// are domain names make one `search` line, their servers a `nameserver` line each: the first 16 unlike names, and the
+/// first 8 servers with unlike texts. A link-local server has its interface as zone (RFC 4007, section 11). The text is
+/// empty where there is neither.
 pub fn resolver(alloc: Global, parts: &[Part]) -> Result<String, NoMemory>
     ensures { IfOk result (λ text. string_bytes text ≡ resolver_text (parts_content parts.now)) }
 {

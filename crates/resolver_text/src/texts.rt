@@ -29,7 +29,9 @@ fn is_among(names: &[&str], name: &str) -> bool
 /// Appends a name that is a domain name and unlike those before it.
 fn add_name<'a>(name: &'a str, names: &mut Vec<&'a str>, limit: usize) -> Result<(), AllocError>
     requires { length names.old.items < limit }
-    ensures { OnOk result (KeepsOn limit (filter is_name (name.now ∷ [])) (map (λ name. name.now) names.old.items) (map (λ name. name.now) names.new.items)) }
+    ensures { OnOk result
+        (KeepsOn limit (filter is_name (name.now ∷ [])) (map (λ name. name.now) names.old.items)
+        (map (λ name. name.now) names.new.items)) }
 {
     if !is_among(names, name) && is_name(name.as_bytes()) {
         names.push(name)?;
@@ -39,7 +41,9 @@ fn add_name<'a>(name: &'a str, names: &mut Vec<&'a str>, limit: usize) -> Result
 
 /// Appends the names of a part, until there are as many as the limit says.
 fn add_names<'a>(part: &'a Part, names: &mut Vec<&'a str>, limit: usize) -> Result<(), AllocError>
-    ensures { OnOk result (KeepsOn limit (part_names (part_content part.now)) (map (λ name. name.now) names.old.items) (map (λ name. name.now) names.new.items)) }
+    ensures { OnOk result
+        (KeepsOn limit (part_names (part_content part.now)) (map (λ name. name.now) names.old.items)
+        (map (λ name. name.now) names.new.items)) }
 {
     for name in &part.names {
         if names.len() >= limit {
@@ -56,7 +60,9 @@ pub(crate) fn first_names<'a>(
     parts: &[&'a Part],
     limit: usize,
 ) -> Result<Vec<&'a str>, AllocError>
-    ensures { IfOk result (λ names. map (λ name. name.now) names.items ≡ take limit (unlike (flat_map part_names (map (λ p. part_content p.now) parts.now)))) }
+    ensures { IfOk result
+        (λ names. map (λ name. name.now) names.items
+        ≡ take limit (unlike (flat_map part_names (map (λ p. part_content p.now) parts.now)))) }
 {
     let mut names = Vec::new(alloc);
     for part in parts {
@@ -98,7 +104,8 @@ fn server_text(alloc: Global, name: Name, server: Server) -> Result<String, Allo
     }
 }
 
-/// Whether the server's text is the same on each interface: a zone stands behind link-local addresses alone (RFC 4007, section 11).
+/// Whether the server's text is the same on each interface: a zone stands behind link-local addresses alone (RFC 4007,
+/// section 11).
 fn needs_no_zone(server: Server) -> bool
     ensures { result ≡ needs_no_zone server }
 {
@@ -158,8 +165,8 @@ impl Servers {
         self.texts.len()
     }
 
-    /// Adds the text of a server that is unlike those before it. Of several interfaces' servers most are the same ones, so a
-    /// server that was told isn't printed again.
+    /// Adds the text of a server that is unlike those before it. Of several interfaces' servers most are the same ones,
+    /// so a server that was told isn't printed again.
     fn add(
         &mut self,
         alloc: Global,
@@ -210,7 +217,9 @@ pub(crate) fn first_servers(
     parts: &[&Part],
     limit: usize,
 ) -> Result<Vec<String>, AllocError>
-    ensures { IfOk result (λ servers. map (λ text. string_bytes text) servers.items ≡ take limit (unlike (flat_map part_servers (map (λ p. part_content p.now) parts.now)))) }
+    ensures { IfOk result
+        (λ servers. map (λ text. string_bytes text) servers.items
+        ≡ take limit (unlike (flat_map part_servers (map (λ p. part_content p.now) parts.now)))) }
 {
     let mut servers = Servers::new(alloc);
     for part in parts {

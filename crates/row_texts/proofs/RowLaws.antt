@@ -34,7 +34,8 @@ use Rattle.row_texts.specs.RowReading.{iface_at, metric_at, net_at, gateway_at, 
 use Rattle.row_texts.proofs.SpellingLaws.{Finds, OneText, one_text, same_finds, Made, map_finds, Tested, guard_finds, After, word_finds, Parted, pair_finds, OneOf, either_finds, choice_finds}
 
 -- by the first word: what was read after it, or otherwise
-pub by_cases : {X P : Type 0} (word text : List ℕ) (read : List ℕ → Option X) (other : Option X) (x : X) → by_word (strip_word word text) read other ≡ Some x → ((rest : List ℕ) → text ≡ word ++ rest → read rest ≡ Some x → P) → (other ≡ Some x → P) → P
+pub by_cases : {X P : Type 0} (word text : List ℕ) (read : List ℕ → Option X) (other : Option X) (x : X) → by_word (strip_word word text) read other ≡ Some x
+    → ((rest : List ℕ) → text ≡ word ++ rest → read rest ≡ Some x → P) → (other ≡ Some x → P) → P
 by_cases {X} {P} word text read other x e here there = go (strip_word word text) refl e
   where
     go : (o : Option (List ℕ)) → strip_word word text ≡ o → by_word o read other ≡ Some x → P
@@ -128,7 +129,9 @@ nets_apart text x y one other = net4_has_dot one.value (subst (Lacks 46) one.spe
 
 net_finds : Finds FitNet net_at
 unfolding net_at
-net_finds = same_finds FitNet net_to net_from (either_finds (map_finds V4 (one_text net4_reads)) (map_finds V6 (record { sound = net6_found; whole = net6_whole })) nets_apart)
+net_finds =
+    same_finds FitNet net_to net_from
+    (either_finds (map_finds V4 (one_text net4_reads)) (map_finds V6 (record { sound = net6_found; whole = net6_whole })) nets_apart)
 
 net_apart : (text : List ℕ) (net : Net) → FitNet text net → Lacks 32 text
 net_apart text (V4 net) fit = subst (Lacks 32) (sym fit.0) (net4_lacks net 32 (record { address = fit.1.0; prefix = fit.1.1 }) refl)
@@ -158,7 +161,9 @@ gateways_apart text x y one other = ip4_has_dot one.value (subst (Lacks 46) one.
 
 gateway_finds : Finds SpellsGateway gateway_at
 unfolding gateway_at
-gateway_finds = same_finds SpellsGateway gateway_to gateway_from (either_finds (map_finds Gate4 (one_text ip4_reads)) (map_finds Gate6 (record { sound = ip6_found; whole = ip6_whole })) gateways_apart)
+gateway_finds =
+    same_finds SpellsGateway gateway_to gateway_from
+    (either_finds (map_finds Gate4 (one_text ip4_reads)) (map_finds Gate6 (record { sound = ip6_found; whole = ip6_whole })) gateways_apart)
 
 gateway_apart : (text : List ℕ) (way : Via) → SpellsGateway text way → Lacks 32 text
 gateway_apart text OnLink spells = absurd spells
@@ -259,7 +264,8 @@ tail_from text (Gate6 ip, m) spells =
     let gate = spells.leads in
     gate_from text gate.address (Gate6 ip) m (spells.spelled ∙ ap (λ p. p ++ (codes " metric " ++ decimal m)) gate.spelled) gate.spells spells.metric
 
-word_apart : {X : Type 0} {Spells : List ℕ → X → Type 0} (word other text : List ℕ) (x : X) → After other Spells text x → differ word other ≡ true → strip_word word text ≡ None
+word_apart : {X : Type 0} {Spells : List ℕ → X → Type 0} (word other text : List ℕ) (x : X) → After other Spells text x → differ word other ≡ true
+    → strip_word word text ≡ None
 word_apart word other text x after apart = ap (strip_word word) after.spelled ∙ words_apart word other after.words apart
 
 rest_apart : (text : List ℕ) (tail : Tail) → OneOf RejectTail GateTail text tail → strip_word (codes "metric ") text ≡ None

@@ -12,25 +12,30 @@ pub record Finds {X : Type 0} (Spells : List ℕ → X → Type 0) (found : List
   pub whole : (text : List ℕ) (x : X) → Spells text x → found text ≡ Some x
 
 -- a text spells one value at most
-pub one_value : {X : Type 0} {Spells : List ℕ → X → Type 0} {found : List ℕ → Option X} (text : List ℕ) (x y : X) → Finds Spells found → Spells text x → Spells text y → x ≡ y
+pub one_value : {X : Type 0} {Spells : List ℕ → X → Type 0} {found : List ℕ → Option X} (text : List ℕ) (x y : X) → Finds Spells found → Spells text x
+    → Spells text y → x ≡ y
 one_value text x y law one other = some_same (sym (law.whole text x one) ∙ law.whole text y other)
 
 -- a text that isn't read spells no value
-pub no_value : {X : Type 0} {Spells : List ℕ → X → Type 0} {found : List ℕ → Option X} (text : List ℕ) (x : X) → Finds Spells found → found text ≡ None → ¬ (Spells text x)
+pub no_value : {X : Type 0} {Spells : List ℕ → X → Type 0} {found : List ℕ → Option X} (text : List ℕ) (x : X) → Finds Spells found → found text ≡ None
+    → ¬ (Spells text x)
 no_value text x law none spells = let both : None ≡ Some x = sym none ∙ law.whole text x spells in cc
 
 -- values of one text each
 abbrev pub OneText : {X : Type 0} → (X → List ℕ) → (X → Type 0) → List ℕ → X → Type 0
 OneText text_of Fits text x = (text ≡ text_of x) × Fits x
 
-pub one_text : {X : Type 0} {text_of : X → List ℕ} {Fits : X → Type 0} {found : List ℕ → Option X} → Reads text_of Fits found → Finds (OneText text_of Fits) found
+pub one_text : {X : Type 0} {text_of : X → List ℕ} {Fits : X → Type 0} {found : List ℕ → Option X} → Reads text_of Fits found
+    → Finds (OneText text_of Fits) found
 one_text {found = found} law = record {
   sound = law.sound;
   whole = λ text x spells. ap found spells.0 ∙ law.whole x spells.1;
 }
 
 -- the same in other words
-pub same_finds : {X : Type 0} {Spells : List ℕ → X → Type 0} {found : List ℕ → Option X} (Other : List ℕ → X → Type 0) → ((text : List ℕ) (x : X) → Spells text x → Other text x) → ((text : List ℕ) (x : X) → Other text x → Spells text x) → Finds Spells found → Finds Other found
+pub same_finds : {X : Type 0} {Spells : List ℕ → X → Type 0} {found : List ℕ → Option X} (Other : List ℕ → X → Type 0)
+    → ((text : List ℕ) (x : X) → Spells text x → Other text x) → ((text : List ℕ) (x : X) → Other text x → Spells text x) → Finds Spells found
+    → Finds Other found
 same_finds Other to from law = record {
   sound = λ text x e. to text x (law.sound text x e);
   whole = λ text x other. law.whole text x (from text x other);
@@ -43,7 +48,8 @@ pub record Made {Y X : Type 0} (make : Y → X) (Spells : List ℕ → Y → Typ
   pub makes : make value ≡ x
   pub spells : Spells text value
 
-pub map_finds : {Y X : Type 0} {Spells : List ℕ → Y → Type 0} {found : List ℕ → Option Y} (make : Y → X) → Finds Spells found → Finds (Made make Spells) (λ text. option_map make (found text))
+pub map_finds : {Y X : Type 0} {Spells : List ℕ → Y → Type 0} {found : List ℕ → Option Y} (make : Y → X) → Finds Spells found
+    → Finds (Made make Spells) (λ text. option_map make (found text))
 map_finds {found = found} make law = record {
   sound = λ text x e.
       let m = mapped make (found text) x e in
@@ -54,7 +60,8 @@ map_finds {found = found} make law = record {
 abbrev pub Tested : {X : Type 0} → (X → Bool) → (List ℕ → X → Type 0) → List ℕ → X → Type 0
 Tested test Spells text x = Spells text x × IsTrue (test x)
 
-pub guard_finds : {X : Type 0} {Spells : List ℕ → X → Type 0} {found : List ℕ → Option X} (test : X → Bool) → Finds Spells found → Finds (Tested test Spells) (λ text. guarded test (found text))
+pub guard_finds : {X : Type 0} {Spells : List ℕ → X → Type 0} {found : List ℕ → Option X} (test : X → Bool) → Finds Spells found
+    → Finds (Tested test Spells) (λ text. guarded test (found text))
 guard_finds {found = found} test law = record {
   sound = λ text x e.
       let g = guard_passed test (found text) x e in
@@ -69,7 +76,8 @@ pub record After {X : Type 0} (word : List ℕ) (Spells : List ℕ → X → Typ
   pub spelled : text ≡ word ++ words
   pub spells : Spells words x
 
-pub word_finds : {X : Type 0} {Spells : List ℕ → X → Type 0} {found : List ℕ → Option X} (word : List ℕ) → Finds Spells found → Finds (After word Spells) (after_word word found)
+pub word_finds : {X : Type 0} {Spells : List ℕ → X → Type 0} {found : List ℕ → Option X} (word : List ℕ) → Finds Spells found
+    → Finds (After word Spells) (after_word word found)
 word_finds {found = found} word law = record {
   sound = λ text x e.
       let p = passed (strip_word word text) found x e in
@@ -86,7 +94,10 @@ pub record Parted {X Y : Type 0} (separator : ℕ) (SpellsX : List ℕ → X →
   pub first : SpellsX front p.0
   pub second : SpellsY back p.1
 
-pub pair_finds : {X Y : Type 0} {SpellsX : List ℕ → X → Type 0} {read_x : List ℕ → Option X} {SpellsY : List ℕ → Y → Type 0} {read_y : List ℕ → Option Y} (separator : ℕ) → Finds SpellsX read_x → Finds SpellsY read_y → ((text : List ℕ) (x : X) → SpellsX text x → Lacks separator text) → Finds (Parted separator SpellsX SpellsY) (pair_at separator read_x read_y)
+pub pair_finds : {X Y : Type 0} {SpellsX : List ℕ → X → Type 0} {read_x : List ℕ → Option X} {SpellsY : List ℕ → Y → Type 0} {read_y : List ℕ → Option Y}
+    (separator : ℕ)
+    → Finds SpellsX read_x → Finds SpellsY read_y → ((text : List ℕ) (x : X) → SpellsX text x → Lacks separator text)
+    → Finds (Parted separator SpellsX SpellsY) (pair_at separator read_x read_y)
 pair_finds {X} {Y} {SpellsX} {read_x} {SpellsY} {read_y} separator law_x law_y free = record {
   sound = λ text p e.
       let field = passed (field_at separator read_x text) _ p e in
@@ -105,7 +116,12 @@ pair_finds {X} {Y} {SpellsX} {read_x} {SpellsY} {read_y} separator law_x law_y f
       };
   whole = λ text p parted.
       ap (pair_at separator read_x read_y) parted.spelled
-      ∙ rw (split_whole separator parted.front parted.back (free parted.front p.0 parted.first), law_x.whole parted.front p.0 parted.first, law_y.whole parted.back p.1 parted.second) refl;
+      ∙ rw (
+        split_whole separator parted.front parted.back (free parted.front p.0 parted.first),
+        law_x.whole parted.front p.0 parted.first,
+        law_y.whole parted.back p.1 parted.second,
+      )
+      refl;
 }
 
 -- ---- a choice
@@ -114,7 +130,8 @@ abbrev pub OneOf : {X : Type 0} → (List ℕ → X → Type 0) → (List ℕ �
 OneOf One Other text x = One text x ⊎ Other text x
 
 -- one reading, or another of texts that the first doesn't take
-pub either_finds : {X : Type 0} {One Other : List ℕ → X → Type 0} {read_one read_other : List ℕ → Option X} → Finds One read_one → Finds Other read_other → ((text : List ℕ) (x y : X) → One text x → ¬ (Other text y)) → Finds (OneOf One Other) (λ text. either (read_one text) (read_other text))
+pub either_finds : {X : Type 0} {One Other : List ℕ → X → Type 0} {read_one read_other : List ℕ → Option X} → Finds One read_one → Finds Other read_other
+    → ((text : List ℕ) (x y : X) → One text x → ¬ (Other text y)) → Finds (OneOf One Other) (λ text. either (read_one text) (read_other text))
 either_finds {X} {One} {Other} {read_one} {read_other} one other apart = record {
   sound = λ text x e. found text x (read_one text) refl e;
   whole = λ text x spells. reads text x spells;
@@ -133,13 +150,16 @@ either_finds {X} {One} {Other} {read_one} {read_other} one other apart = record 
     reads text x (inr spells) = second text x spells (read_one text) refl
 
 -- by the first word: one reading after it, and another of texts that begin otherwise
-pub choice_finds : {X : Type 0} {One Other : List ℕ → X → Type 0} {read_one read_other : List ℕ → Option X} (word : List ℕ) → Finds One read_one → Finds Other read_other → ((text : List ℕ) (x : X) → Other text x → strip_word word text ≡ None) → Finds (OneOf (After word One) Other) (choice_at word read_one read_other)
+pub choice_finds : {X : Type 0} {One Other : List ℕ → X → Type 0} {read_one read_other : List ℕ → Option X} (word : List ℕ) → Finds One read_one
+    → Finds Other read_other → ((text : List ℕ) (x : X) → Other text x → strip_word word text ≡ None)
+    → Finds (OneOf (After word One) Other) (choice_at word read_one read_other)
 choice_finds {X} {One} {Other} {read_one} {read_other} word one other apart = record {
   sound = λ text x e. found text x (strip_word word text) refl e;
   whole = λ text x spells. reads text x spells;
 }
   where
-    found : (text : List ℕ) (x : X) (o : Option (List ℕ)) → strip_word word text ≡ o → by_word o read_one (read_other text) ≡ Some x → OneOf (After word One) Other text x
+    found : (text : List ℕ) (x : X) (o : Option (List ℕ)) → strip_word word text ≡ o → by_word o read_one (read_other text) ≡ Some x
+        → OneOf (After word One) Other text x
     found text x (Some rest) was e = inl (record { words = rest; spelled = strip_sound word text rest was; spells = one.sound rest x e })
     found text x None was e = inr (other.sound text x e)
 

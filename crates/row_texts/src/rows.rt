@@ -231,5 +231,6 @@ pub fn print_row(row: &HostRow, into: &mut String) -> Result<(), NoMemory>
 
 /// A text spells one row at most. This does nothing: its contract is the law.
 pub fn a_text_spells_one_row()
-    ensures { (text : List ℕ) (one other : HostRow) → IsRow one → IsRow other → SpellsRow text one → SpellsRow text other → one ≡ other }
+    ensures { (text : List ℕ) (one other : HostRow) → IsRow one → IsRow other → SpellsRow text one
+        → SpellsRow text other → one ≡ other }
 {}

@@ -98,5 +98,6 @@ pub net6_made : (net : Net6) → IsMadeOf is_network6_byte (net6_text net)
 unfolding net6_text
 net6_made net =
     made_join is_network6_byte (ip6_text net.ip ++ 47 ∷ []) (decimal net.len)
-    (made_join is_network6_byte (ip6_text net.ip) (47 ∷ []) (made_weaker is_address6_byte is_network6_byte (ip6_text net.ip) in_network6 (ip6_made net.ip)) refl)
+    (made_join is_network6_byte (ip6_text net.ip) (47 ∷ [])
+    (made_weaker is_address6_byte is_network6_byte (ip6_text net.ip) in_network6 (ip6_made net.ip)) refl)
     (made_weaker is_ascii_digit is_network6_byte (decimal net.len) digit_in6 (decimal_made net.len)).only

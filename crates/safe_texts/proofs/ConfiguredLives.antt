@@ -61,7 +61,8 @@ module _ (managed : List Managed) (plain : AllByRecursion IsPlainlyConfigured ma
 
 -- ---- lives
 
-module _ (text : List ℕ) (managed : List Managed) (specs : List IfSpec) (opening : OpeningMet) (mets : List Met) (life : IsConfiguredLife text managed specs opening mets) where
+module _ (text : List ℕ) (managed : List Managed) (specs : List IfSpec) (opening : OpeningMet) (mets : List Met)
+    (life : IsConfiguredLife text managed specs opening mets) where
   all_plain : AllByRecursion IsPlainlyConfigured managed
   all_plain = subst (AllByRecursion IsPlainlyConfigured) (sym life.manages) (configured_texts_are_safe text life.conf life.reads specs)
 

@@ -55,7 +55,8 @@ first_some : (found : Option (List (List ℕ))) (name : List ℕ) → IfSome (op
 first_some None name = tt
 first_some (Some names) name = λ e. absurd cc
 
-names_after : (first : Option (List ℕ × ℕ)) (rest : ℕ → Option (List (List ℕ))) → IfSome first (λ (m : List ℕ × ℕ). IsName m.0) → ((at : ℕ) → IfSome (rest at) AreNames)
+names_after : (first : Option (List ℕ × ℕ)) (rest : ℕ → Option (List (List ℕ))) → IfSome first (λ (m : List ℕ × ℕ). IsName m.0)
+    → ((at : ℕ) → IfSome (rest at) AreNames)
     → IfSome (option_and_then (λ m. option_map (λ texts. m.0 ∷ texts) (rest m.1)) first) AreNames
 names_after None rest is later = tt
 names_after (Some m) rest is later = one_more m.0 is (rest m.1) (later m.1)
@@ -70,7 +71,8 @@ names_named (suc more) value at =
 abbrev AreSome : List (List ℕ) → Type 0
 AreSome names = names ≢ []
 
-after_some : (first : Option (List ℕ × ℕ)) (rest : ℕ → Option (List (List ℕ))) → IfSome (option_and_then (λ m. option_map (λ texts. m.0 ∷ texts) (rest m.1)) first) AreSome
+after_some : (first : Option (List ℕ × ℕ)) (rest : ℕ → Option (List (List ℕ)))
+    → IfSome (option_and_then (λ m. option_map (λ texts. m.0 ∷ texts) (rest m.1)) first) AreSome
 after_some None rest = tt
 after_some (Some m) rest = first_some (rest m.1) m.0
 
@@ -85,7 +87,8 @@ names_some : (more : ℕ) (value : List ℕ) → ltb 0 (length value) ≡ true �
 unfolding names_within
 names_some zero value filled = chosen_by SomeIf (eqb 0 (length value)) (Some []) None (λ e. absurd (not_empty (length value) e filled)) (λ e. tt)
 names_some (suc more) value filled =
-    chosen_by SomeIf (eqb 0 (length value)) (Some []) _ (λ e. absurd (not_empty (length value) e filled)) (λ e. after_some (name_in value 0) (names_within more value))
+    chosen_by SomeIf (eqb 0 (length value)) (Some []) _ (λ e. absurd (not_empty (length value) e filled))
+    (λ e. after_some (name_in value 0) (names_within more value))
 
 pub record AreSomeNames (names : List (List ℕ)) : Type 0 where
   pub some : names ≢ []

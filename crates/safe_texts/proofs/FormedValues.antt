@@ -51,7 +51,8 @@ addresses_some (a ∷ b ∷ c ∷ d ∷ rest) e = filled (address (a ∷ b ∷ c
 
 pub addrs_some : (value : List ℕ) → IfSome (addrs_in value) Filled
 addrs_some value =
-    chosen_by (λ (o : Option (List Ip4)). IfSome o Filled) (ltb 0 (length value) && eqb (length value % 4) 0) (Some (addresses value)) None (addresses_some value) (λ e. tt)
+    chosen_by (λ (o : Option (List Ip4)). IfSome o Filled) (ltb 0 (length value) && eqb (length value % 4) 0) (Some (addresses value)) None
+    (addresses_some value) (λ e. tt)
 
 more_some : {A : Type 0} (x : A) (found : Option (List A)) → IfSome (option_map (λ xs. x ∷ xs) found) Filled
 more_some x None = tt
@@ -79,7 +80,8 @@ sixteen n e =
 
 pub dns6_some : (value : List ℕ) → IfSome (dns6_in value) Filled
 dns6_some value =
-    chosen_by (λ (o : Option (List Ip6)). IfSome o Filled) (ltb 0 (length value) && eqb (length value % 16) 0) (Some (addresses_in (length value / 16) value)) None
+    chosen_by (λ (o : Option (List Ip6)). IfSome o Filled) (ltb 0 (length value) && eqb (length value % 16) 0)
+    (Some (addresses_in (length value / 16) value)) None
     (λ e. counted_some (length value / 16) value (sixteen (length value) e)) (λ e. tt)
 
 -- ---- the texts
@@ -100,20 +102,23 @@ names_listed names are = record { texts = names; some = are.some; listed = refl;
 pub value_formed : (form : ValueForm) (value : List ℕ) → IfSome (value_text form value) (HasForm (form_for form))
 value_formed Address value = any_read (HasForm (One Address4)) ip4_text ip4_made (addr_in value)
 value_formed Addresses value =
-    of_read Filled (IsListOf (HasGrammar Address4)) (λ (found : List Ip4). listed (map ip4_text found)) (values_listed (HasGrammar Address4) ip4_text ip4_made) (addrs_in value)
+    of_read Filled (IsListOf (HasGrammar Address4)) (λ (found : List Ip4). listed (map ip4_text found)) (values_listed (HasGrammar Address4) ip4_text ip4_made)
+    (addrs_in value)
     (addrs_some value)
 value_formed Number16 value = any_read (HasForm (One (Number (2 ^ 16)))) decimal decimal_made (u16_in value)
 value_formed Number32 value = any_read (HasForm (One (Number (2 ^ 32)))) decimal decimal_made (u32_in value)
 value_formed DomainName value = text_named value
 value_formed DomainNames value = of_read AreSomeNames (IsListOf (HasGrammar grammar.DomainName)) listed names_listed (search_in value) (search_named value)
 value_formed Routes value =
-    of_read Filled (IsListOf (HasGrammar Route4)) (λ (routes : List ClasslessRoute). listed (map route_text routes)) (values_listed (HasGrammar Route4) route_text route_made)
+    of_read Filled (IsListOf (HasGrammar Route4)) (λ (routes : List ClasslessRoute). listed (map route_text routes))
+    (values_listed (HasGrammar Route4) route_text route_made)
     (routes_in value) (routes_some value)
 value_formed Opaque value = tt
 
 pub servers6_formed : (value : List ℕ) → IfSome (servers6_text value) (IsListOf (HasGrammar Address6))
 servers6_formed value =
-    of_read Filled (IsListOf (HasGrammar Address6)) (λ (servers : List Ip6). listed (map ip6_text servers)) (values_listed (HasGrammar Address6) ip6_text ip6_made) (dns6_in value)
+    of_read Filled (IsListOf (HasGrammar Address6)) (λ (servers : List Ip6). listed (map ip6_text servers))
+    (values_listed (HasGrammar Address6) ip6_text ip6_made) (dns6_in value)
     (dns6_some value)
 
 pub names6_formed : (value : List ℕ) → IfSome (names6_text value) (IsListOf (HasGrammar grammar.DomainName))

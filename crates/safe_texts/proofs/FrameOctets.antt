@@ -118,13 +118,15 @@ values_after (suc k) [] h = tt
 values_after (suc k) (b ∷ rest) h = values_after k rest (rest_bytes b rest h)
 values_after zero (code ∷ rest) h =
     all_join (λ (i : Instance). AreBytes i.1) (instance_of code (front_of (code ∷ rest)) rest) (instances_after (more_bytes (front_of (code ∷ rest)) rest) rest)
-    (one_value code (front_of (code ∷ rest)) rest (rest_bytes code rest h)) (values_after (more_bytes (front_of (code ∷ rest)) rest) rest (rest_bytes code rest h))
+    (one_value code (front_of (code ∷ rest)) rest (rest_bytes code rest h))
+    (values_after (more_bytes (front_of (code ∷ rest)) rest) rest (rest_bytes code rest h))
 
 values_in : (area : List ℕ) → AreBytes area → Values (instances_in area)
 unfolding instances_in
 values_in area h = values_after 0 area h
 
-values_over : (overload : Overload) (options file sname : List ℕ) → AreBytes options → AreBytes file → AreBytes sname → Values (instances_over overload options file sname)
+values_over : (overload : Overload) (options file sname : List ℕ) → AreBytes options → AreBytes file → AreBytes sname
+    → Values (instances_over overload options file sname)
 values_over overload options file sname o f s =
     all_join (λ (i : Instance). AreBytes i.1) _ _
     (all_join (λ (i : Instance). AreBytes i.1) (instances_in options) (if reads_file overload then instances_in file else []) (values_in options o)
@@ -184,7 +186,8 @@ by_port source datagram h =
     gated (λ (o : Option HeardMessage). IfSome o Good4) _ (option_map (with_source source) (message_in datagram.payload)) None
     (by_message source (message_in datagram.payload) (message_good datagram.payload h)) tt
 
-by_datagram : (source : Mac) (datagram : Option Udp4) → IfSome datagram (λ (d : Udp4). AreBytes d.payload) → IfSome (option_and_then (message_to source) datagram) Good4
+by_datagram : (source : Mac) (datagram : Option Udp4) → IfSome datagram (λ (d : Udp4). AreBytes d.payload)
+    → IfSome (option_and_then (message_to source) datagram) Good4
 by_datagram source None h = tt
 by_datagram source (Some datagram) h = by_port source datagram h
 
@@ -220,7 +223,8 @@ values6_in area h = values6_within (length area) area h
 
 first_bytes : (code : ℕ) (instances : List area6.Instance) → Values6 instances → IfSome (first_of code instances) AreBytes
 first_bytes code [] h = tt
-first_bytes code (i ∷ instances) h = gated (λ (o : Option (List ℕ)). IfSome o AreBytes) (i.0 == code) (Some i.1) (first_of code instances) h.0 (first_bytes code instances h.1)
+first_bytes code (i ∷ instances) h =
+    gated (λ (o : Option (List ℕ)). IfSome o AreBytes) (i.0 == code) (Some i.1) (first_of code instances) h.0 (first_bytes code instances h.1)
 
 or_none : (found : Option (List ℕ)) → IfSome found AreBytes → AreBytes (unwrap_or found [])
 or_none None h = no_bytes
@@ -233,7 +237,8 @@ pub record HasValues6 (message : Content6) : Type 0 where
 abbrev pub Good6 : HeardMessage6 → Type 0
 Good6 heard = HasValues6 heard.message
 
-by_kind6 : (bytes : List ℕ) (instances : List area6.Instance) (kind : Option ServerKind6) → Values6 instances → IfSome (option_map (content_of bytes instances) kind) HasValues6
+by_kind6 : (bytes : List ℕ) (instances : List area6.Instance) (kind : Option ServerKind6) → Values6 instances
+    → IfSome (option_map (content_of bytes instances) kind) HasValues6
 by_kind6 bytes instances None h = tt
 by_kind6 bytes instances (Some kind) h = record {
   dns = or_none (first_of dns_servers instances) (first_bytes dns_servers instances h);
@@ -256,7 +261,8 @@ by_message6 source (Some message) h = h
 
 by_port6 : (mac source : Mac) (datagram : Udp6) → AreBytes datagram.payload → IfSome (heard6.message_to mac source datagram) Good6
 by_port6 mac source datagram h =
-    gated (λ (o : Option HeardMessage6). IfSome o Good6) (heard6.is_to mac datagram) _ _ (by_message6 source (message6_in datagram.payload) (message6_good datagram.payload h)) tt
+    gated (λ (o : Option HeardMessage6). IfSome o Good6) (heard6.is_to mac datagram) _ _
+    (by_message6 source (message6_in datagram.payload) (message6_good datagram.payload h)) tt
 
 by_datagram6 : (mac source : Mac) (datagram : Option Udp6) → IfSome datagram (λ (d : Udp6). AreBytes d.payload)
     → IfSome (option_and_then (heard6.message_to mac source) datagram) Good6
@@ -266,7 +272,8 @@ by_datagram6 mac source (Some datagram) h = by_port6 mac source datagram h
 by_frame6 : (mac : Mac) (frame : Option Frame) → IfSome frame (λ (f : Frame). AreBytes f.body) → IfSome (option_and_then (heard6.message_for mac) frame) Good6
 by_frame6 mac None h = tt
 by_frame6 mac (Some frame) h =
-    gated (λ (o : Option HeardMessage6). IfSome o Good6) (heard6.is_for mac frame) _ _ (by_datagram6 mac frame.from (udp6_in frame.body) (udp6_bytes frame.body h)) tt
+    gated (λ (o : Option HeardMessage6). IfSome o Good6) (heard6.is_for mac frame) _ _
+    (by_datagram6 mac frame.from (udp6_in frame.body) (udp6_bytes frame.body h)) tt
 
 pub heard6_good : (mac : Mac) (bytes : List ℕ) → AreBytes bytes → IfSome (heard6_in mac bytes) Good6
 unfolding heard6_in

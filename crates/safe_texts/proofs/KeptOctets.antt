@@ -120,7 +120,8 @@ brought_octets answer.Nak values fresh new old = old
 
 -- ---- DHCPv6
 
-kept6_octets : (keep : Keep6) (fresh kept : Option Lease6Content) → IfSome fresh Octets6 → IfSome kept Octets6 → IfSome (moves6.kept_after keep fresh kept) Octets6
+kept6_octets : (keep : Keep6) (fresh kept : Option Lease6Content) → IfSome fresh Octets6 → IfSome kept Octets6
+    → IfSome (moves6.kept_after keep fresh kept) Octets6
 kept6_octets keep6.Stays fresh kept new old = old
 kept6_octets keep6.Clears fresh kept new old = tt
 kept6_octets keep6.Takes fresh kept new old = new
@@ -166,7 +167,8 @@ granted_values message h =
 granted_octets : (at : ℕ) (c : ClientContent) (message : Content6) → HasValues6 message → (server : List ℕ) → IfSome (granted at c message server) Octets6
 granted_octets at c message h server = gated (λ (o : Option Lease6Content). IfSome o Octets6) _ (Some _) None (granted_values message h) tt
 
-by_server : (at : ℕ) (c : ClientContent) (message : Content6) → HasValues6 message → (server : Option (List ℕ)) → IfSome (option_and_then (granted at c message) server) Octets6
+by_server : (at : ℕ) (c : ClientContent) (message : Content6) → HasValues6 message → (server : Option (List ℕ))
+    → IfSome (option_and_then (granted at c message) server) Octets6
 by_server at c message h None = tt
 by_server at c message h (Some server) = granted_octets at c message h server
 
@@ -174,17 +176,21 @@ fresh6_octets : (at : ℕ) (taken : Bool) (c : ClientContent) (message : Content
 fresh6_octets at true c message h = by_server at c message h (server_of message)
 fresh6_octets at false c message h = tt
 
-stepped_octets : (step : Step6) (fresh : Option Lease6Content) (c : ClientContent) → IfSome fresh Octets6 → KeepsOctets c → KeepsOctets (stepped step fresh c).client
+stepped_octets : (step : Step6) (fresh : Option Lease6Content) (c : ClientContent) → IfSome fresh Octets6 → KeepsOctets c
+    → KeepsOctets (stepped step fresh c).client
 stepped_octets step fresh c new old = kept6_octets step.keep fresh c.kept new old
 
 advertised_octets : (c : ClientContent) (message : Content6) → KeepsOctets c → KeepsOctets (advertised (advertise_answer c message) message c)
 advertised_octets c message old = gated KeepsOctets _ _ c old old
 
-answered_octets : (at salt : ℕ) (message : Content6) → HasValues6 message → (kind : ServerKind6) (c : ClientContent) → KeepsOctets c → KeepsOctets (answered at salt message kind c).client
+answered_octets : (at salt : ℕ) (message : Content6) → HasValues6 message → (kind : ServerKind6) (c : ClientContent) → KeepsOctets c
+    → KeepsOctets (answered at salt message kind c).client
 answered_octets at salt message h Advertise c old =
-    stepped_octets (heard_row (turn_of at salt c) (advertise_answer c message) c.state) None (advertised (advertise_answer c message) message c) tt (advertised_octets c message old)
+    stepped_octets (heard_row (turn_of at salt c) (advertise_answer c message) c.state) None (advertised (advertise_answer c message) message c) tt
+    (advertised_octets c message old)
 answered_octets at salt message h Reply c old =
-    stepped_octets (heard_row (turn_of at salt c) (answer_in at c message) c.state) (fresh_in at c message) c (fresh6_octets at (is_taken c message) c message h) old
+    stepped_octets (heard_row (turn_of at salt c) (answer_in at c message) c.state) (fresh_in at c message) c
+    (fresh6_octets at (is_taken c message) c message h) old
 
 tick_octets : (at salt : ℕ) (c : ClientContent) → KeepsOctets c → KeepsOctets (tick_turned at salt c).client
 unfolding tick_turned
@@ -194,7 +200,8 @@ tick_octets at salt c old =
     (stepped_octets (tick_row (turn_of at salt c) (dates_in c) (parting_at (Lapse at) c) c.state) None (lapsed at (parting_at (Lapse at) c) c) tt
     (lapsed_octets at (parting_at (Lapse at) c) c old)) old
 
-hears_octets : (at salt : ℕ) (message : Content6) → HasValues6 message → (c : ClientContent) → KeepsOctets c → KeepsOctets (hears_turned at salt message c).client
+hears_octets : (at salt : ℕ) (message : Content6) → HasValues6 message → (c : ClientContent) → KeepsOctets c
+    → KeepsOctets (hears_turned at salt message c).client
 unfolding hears_turned
 hears_octets at salt message h c old =
     gated (λ (turned : Turned6). KeepsOctets turned.client) (counts c message) (answered at salt message message.kind (learnt message.sol_max c)) (rested c)
@@ -207,7 +214,8 @@ carrier_octets carrier at salt c old = stepped_octets (carrier_step carrier at s
 contested_octets : (address : Ip6) (at salt : ℕ) (c : ClientContent) → KeepsOctets c → KeepsOctets (contested_turned address at salt c).client
 unfolding contested_turned
 contested_octets address at salt c old =
-    stepped_octets (duplicate_row (turn_of at salt c) (parting_at (Duplicate address) c) c.state) None (given_up address (parting_at (Duplicate address) c) c) tt
+    stepped_octets (duplicate_row (turn_of at salt c) (parting_at (Duplicate address) c) c.state) None
+    (given_up address (parting_at (Duplicate address) c) c) tt
     (given_octets address (parting_at (Duplicate address) c) c old)
 
 release_octets : (tell : Tell6) (at salt : ℕ) (c : ClientContent) → KeepsOctets c → KeepsOctets (release_turned tell at salt c).client
@@ -256,7 +264,8 @@ octets_good bytes h = record { heard4 = λ mac. heard4_good mac bytes h; heard6 
 own_octets : (spec : IfSpec) (lease : LeaseContent) → HasText lease → IfSome (own_lease spec lease) Octets4
 own_octets spec lease has = gated (λ (k : Option LeaseContent). IfSome k Octets4) (is_own spec lease.name lease.origin) (Some lease) None has.typed.values tt
 
-spelled_octets : (spec : IfSpec) (text : List ℕ) (found : Option LeaseContent) → lease_spelled text ≡ found → IfSome (option_and_then (own_lease spec) found) Octets4
+spelled_octets : (spec : IfSpec) (text : List ℕ) (found : Option LeaseContent) → lease_spelled text ≡ found
+    → IfSome (option_and_then (own_lease spec) found) Octets4
 spelled_octets spec text None e = tt
 spelled_octets spec text (Some lease) e = own_octets spec lease ((is_reading text lease).sound e).spells.1
 

@@ -87,7 +87,8 @@ module _ (Q : Iface → Type 0) where
 
     step4_has : (at : ℕ) (f : Iface) (step : Step4) → Q f → StepHas (dhcp4_step at f step)
     step4_has at f step q =
-        let after : Q (dhcp4_step at f step).iface = kept.local (followed f.managed.conf at (holds_lease f) step.news f.local) (record f { dhcp4 = moved step f.dhcp4 }) (kept.step4 step f q) in
+        let after : Q (dhcp4_step at f step).iface =
+        kept.local (followed f.managed.conf at (holds_lease f) step.news f.local) (record f { dhcp4 = moved step f.dhcp4 }) (kept.step4 step f q) in
         record { iface = after; reports = reports_have f (dhcp4_step at f step).iface after (lease_news step.news) }
 
     step6_has : (f : Iface) (turned : Turned6) → Q (after_dhcp6 turned f) → StepHas (dhcp6_step f turned)
@@ -100,11 +101,13 @@ module _ (Q : Iface → Type 0) where
 
     begin4_has : (at salt : ℕ) (f : Iface) → Q f → StepHas (begin_dhcp4 at salt f)
     begin4_has at salt f q =
-        gated StepHas (runs_dhcp4 f.managed.conf) (dhcp4_step at f (carrier_step Up at salt f.dhcp4)) (silent f) (step4_has at f (carrier_step Up at salt f.dhcp4) q) (silent_has f q)
+        gated StepHas (runs_dhcp4 f.managed.conf) (dhcp4_step at f (carrier_step Up at salt f.dhcp4)) (silent f)
+        (step4_has at f (carrier_step Up at salt f.dhcp4) q) (silent_has f q)
 
     rebind4_has : (at salt : ℕ) (f : Iface) → Q f → StepHas (rebind_dhcp4 at salt f)
     rebind4_has at salt f q =
-        gated StepHas (runs_dhcp4 f.managed.conf) (dhcp4_step at f (rebind_step at salt f.dhcp4)) (silent f) (step4_has at f (rebind_step at salt f.dhcp4) q) (silent_has f q)
+        gated StepHas (runs_dhcp4 f.managed.conf) (dhcp4_step at f (rebind_step at salt f.dhcp4)) (silent f) (step4_has at f (rebind_step at salt f.dhcp4) q)
+        (silent_has f q)
 
     begin_local_has : (at : ℕ) (f : Iface) → Q f → StepHas (begin_local at f)
     begin_local_has at f q = silent_has (record f { local = armed f.managed.conf at f.local }) (kept.local (armed f.managed.conf at f.local) f q)
@@ -119,7 +122,8 @@ module _ (Q : Iface → Type 0) where
 
     rebind6_has : (at salt : ℕ) (f : Iface) → Q f → StepHas (rebind_dhcp6 at salt f)
     rebind6_has at salt f q =
-        gated StepHas (runs_dhcp6 f.managed.conf) (dhcp6_step f (rebind_turned at salt f.dhcp6)) (silent f) (step6_has f (rebind_turned at salt f.dhcp6) (kept.rebind6 at salt f q))
+        gated StepHas (runs_dhcp6 f.managed.conf) (dhcp6_step f (rebind_turned at salt f.dhcp6)) (silent f)
+        (step6_has f (rebind_turned at salt f.dhcp6) (kept.rebind6 at salt f q))
         (silent_has f q)
 
     off_has : (f : Iface) → Q f → StepHas (local_off f)
@@ -132,7 +136,8 @@ module _ (Q : Iface → Type 0) where
 
     rebinds_has : (at salt : ℕ) (f : Iface) → Q f → StepHas (machines_rebind at salt f)
     rebinds_has at salt f q =
-        then_has (then_step (rebind_dhcp4 at salt f) (arms at)) (rebind_dhcp6 at salt) (then_has (rebind_dhcp4 at salt f) (arms at) (rebind4_has at salt f q) (arms_has at)) (rebind6_has at salt)
+        then_has (then_step (rebind_dhcp4 at salt f) (arms at)) (rebind_dhcp6 at salt)
+        (then_has (rebind_dhcp4 at salt f) (arms at) (rebind4_has at salt f q) (arms_has at)) (rebind6_has at salt)
 
     drops_has : (at salt : ℕ) (f : Iface) → Q f → StepHas (machines_drop at salt f)
     drops_has at salt f q =
@@ -149,10 +154,12 @@ module _ (Q : Iface → Type 0) where
     -- ---- inputs
 
     comes_has : (at salt : ℕ) (f : Iface) → Q f → StepHas (carrier_comes at salt f)
-    comes_has at salt f q = news_has CarrierCame f (begins at salt (record f { up = true })) (begins_has at salt (record f { up = true }) (kept.carrier true f q))
+    comes_has at salt f q =
+        news_has CarrierCame f (begins at salt (record f { up = true })) (begins_has at salt (record f { up = true }) (kept.carrier true f q))
 
     goes_has : (at salt : ℕ) (f : Iface) → Q f → StepHas (carrier_goes at salt f)
-    goes_has at salt f q = news_has CarrierWent f (machines_drop at salt (record f { up = false })) (drops_has at salt (record f { up = false }) (kept.carrier false f q))
+    goes_has at salt f q =
+        news_has CarrierWent f (machines_drop at salt (record f { up = false })) (drops_has at salt (record f { up = false }) (kept.carrier false f q))
 
     carried_has : (at salt : ℕ) (up : Bool) (f : Iface) → Q f → StepHas (carried at salt up f)
     carried_has at salt true f q = gated StepHas f.up (silent f) (carrier_comes at salt f) (silent_has f q) (comes_has at salt f q)
@@ -167,7 +174,8 @@ module _ (Q : Iface → Type 0) where
     halted_has : (at salt : ℕ) (f : Iface) → Q f → StepHas (halted at salt f)
     halted_has at salt f q =
         then_has (machines_stop (told_at_stop f.managed.conf) at salt (record f { stopped = true })) (tells Stopped)
-        (stops_has (told_at_stop f.managed.conf) at salt (record f { stopped = true }) (kept.stopped f q)) (λ g r. news_has Stopped g (silent g) (silent_has g r))
+        (stops_has (told_at_stop f.managed.conf) at salt (record f { stopped = true }) (kept.stopped f q))
+        (λ g r. news_has Stopped g (silent g) (silent_has g r))
 
     contested_has : (at salt : ℕ) (address : Ip6) (f : Iface) → Q f → StepHas (contested at salt address f)
     contested_has at salt address f q = step6_has f (contested_turned address at salt f.dhcp6) (kept.contested6 address at salt f q)
@@ -199,9 +207,11 @@ module _ (Q : Iface → Type 0) where
           → StepHas (hears_message at salt message message6 f)
       message_has None good message6 good6 f q = message6_has message6 good6 f q
       message_has (Some heard) good message6 good6 f q =
-          step4_has at (record f { dhcp4 = brought (arrival_at at heard) f.dhcp4 }) (heard_step salt (arrival_at at heard) f.dhcp4) (kept.brings4 at heard good f q)
+          step4_has at (record f { dhcp4 = brought (arrival_at at heard) f.dhcp4 }) (heard_step salt (arrival_at at heard) f.dhcp4)
+          (kept.brings4 at heard good f q)
 
-      either_has : (arp : Option ArpView) (message : Option HeardMessage) → IfSome message Good4 → (message6 : Option HeardMessage6) → IfSome message6 Good6 → (f : Iface) → Q f
+      either_has : (arp : Option ArpView) (message : Option HeardMessage) → IfSome message Good4 → (message6 : Option HeardMessage6) → IfSome message6 Good6
+          → (f : Iface) → Q f
           → StepHas (hears_either own at salt arp message message6 f)
       either_has (Some arp) message good message6 good6 f q = packet_has arp f q
       either_has None message good message6 good6 f q = message_has message good message6 good6 f q
@@ -209,7 +219,8 @@ module _ (Q : Iface → Type 0) where
       module _ (bytes : List ℕ) (good : BringsGood Good4 Good6 bytes) where
         hears_has : (f : Iface) → Q f → StepHas (hears own at salt bytes f)
         hears_has f q =
-            either_has (arp_heard bytes) (heard4_in f.managed.spec.mac bytes) (good.heard4 f.managed.spec.mac) (heard6_in f.managed.spec.mac bytes) (good.heard6 f.managed.spec.mac) f q
+            either_has (arp_heard bytes) (heard4_in f.managed.spec.mac bytes) (good.heard4 f.managed.spec.mac) (heard6_in f.managed.spec.mac bytes)
+            (good.heard6 f.managed.spec.mac) f q
 
         taken_has : (event : Event) (f : Iface) → Q f → StepHas (taken own at salt event bytes f)
         taken_has (Frame index len) f q = gated StepHas _ (hears own at salt bytes f) (silent f) (hears_has f q) (silent_has f q)

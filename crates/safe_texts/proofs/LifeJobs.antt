@@ -72,14 +72,16 @@ module _ (managed : List Managed) where
   Waits s = AreSafeJobs managed s.waiting
 
   letting_ends : (number : ℕ) (order : Order) (s : Supervision) → Waits s → Ends Waits (letting_go number order s)
-  letting_ends number child.Abandon s waits = then_ends IsSafeCall Waits (asks.Abandon number) (λ _. Done s) (λ answer. tt) (λ answer. done_ends IsSafeCall Waits s waits)
+  letting_ends number child.Abandon s waits =
+      then_ends IsSafeCall Waits (asks.Abandon number) (λ _. Done s) (λ answer. tt) (λ answer. done_ends IsSafeCall Waits s waits)
   letting_ends number child.Idle s waits = done_ends IsSafeCall Waits s waits
   letting_ends number (child.Start job) s waits = done_ends IsSafeCall Waits s waits
 
   child_ends : (at : ℕ) (s : Supervision) → Waits s → (running : Option Child) → Ends Waits (polling_child at s running)
   child_ends at s waits None = done_ends IsSafeCall Waits s waits
   child_ends at s waits (Some running) =
-      then_ends IsSafeCall Waits (asks.Poll running.number) (λ answer. letting_go running.number (poll_order (heard answer) at s.child) (after_poll (heard answer) at s)) (λ answer. tt)
+      then_ends IsSafeCall Waits (asks.Poll running.number)
+      (λ answer. letting_go running.number (poll_order (heard answer) at s.child) (after_poll (heard answer) at s)) (λ answer. tt)
       (λ answer. letting_ends running.number (poll_order (heard answer) at s.child) (after_poll (heard answer) at s) waits)
 
   polling_ends : (at : ℕ) (s : Supervision) → Waits s → Ends Waits (polling at s)
@@ -98,11 +100,13 @@ module _ (managed : List Managed) where
 
   put_waits : (job : Job) (s : Supervision) → Safe job → Waits s → Waits (after_put job s)
   put_waits job s safe waits =
-      gated (AreSafeJobs managed) (is_full s) s.waiting (s.waiting ++ numbered job s ∷ []) waits (all_join Safe s.waiting (numbered job s ∷ []) waits (numbered_safe job s safe, tt))
+      gated (AreSafeJobs managed) (is_full s) s.waiting (s.waiting ++ numbered job s ∷ []) waits
+      (all_join Safe s.waiting (numbered job s ∷ []) waits (numbered_safe job s safe, tt))
 
   one_ends : (job : Job) (s : Supervision) → Safe job → Waits s → Ends Waits (putting_one job s)
   one_ends job s safe waits =
-      gated (λ (asks : Asks Supervision). Ends Waits asks) (is_full s) (Then (asks.Drop (numbered job s)) (λ _. Done (after_put job s))) (Done (after_put job s))
+      gated (λ (asks : Asks Supervision). Ends Waits asks) (is_full s) (Then (asks.Drop (numbered job s)) (λ _. Done (after_put job s)))
+      (Done (after_put job s))
       (then_ends IsSafeCall Waits (asks.Drop (numbered job s)) (λ _. Done (after_put job s)) (λ answer. (numbered_safe job s safe, tt))
       (λ answer. done_ends IsSafeCall Waits (after_put job s) (put_waits job s safe waits)))
       (done_ends IsSafeCall Waits (after_put job s) (put_waits job s safe waits))
@@ -133,14 +137,16 @@ module _ (managed : List Managed) where
 
   starting_ends : (order : Order) (s : Supervision) → SafeOrder order → Waits s → Ends Waits (starting order s)
   starting_ends (child.Start job) s safe waits =
-      then_ends IsSafeCall Waits (asks.Start job) (λ done. Done (started done s)) (λ done. (safe, tt)) (λ done. done_ends IsSafeCall Waits (started done s) (started_waits done s waits))
+      then_ends IsSafeCall Waits (asks.Start job) (λ done. Done (started done s)) (λ done. (safe, tt))
+      (λ done. done_ends IsSafeCall Waits (started done s) (started_waits done s waits))
   starting_ends child.Idle s safe waits = done_ends IsSafeCall Waits s waits
   starting_ends child.Abandon s safe waits = done_ends IsSafeCall Waits s waits
 
   hooking_ends : (at : ℕ) (jobs : List Job) (s : Supervision) → AreSafeJobs managed jobs → Waits s → Ends Waits (hooking at jobs s)
   hooking_ends at jobs s safe waits =
       both_ends IsSafeCall Waits Waits (putting jobs s) (λ line. starting (next_order line) (after_next at line)) (putting_ends jobs s safe waits)
-      (λ line waiting. starting_ends (next_order line) (after_next at line) (first_safe line.child line.waiting waiting) (rest_safe line.child line.waiting waiting))
+      (λ line waiting. starting_ends (next_order line) (after_next at line) (first_safe line.child line.waiting waiting)
+      (rest_safe line.child line.waiting waiting))
 
   -- ---- a step of the client
 
@@ -151,7 +157,8 @@ module _ (managed : List Managed) where
     hold : AllHold life.client.ifaces
     waits : Waits life.hooks
 
-  module _ (outlook : Outlook) (step : ClientStep) (moment : ℕ) (stop : Option ℕ) (safe : AreSafeJobs managed step.jobs) (hold : AllHold step.client.ifaces) where
+  module _ (outlook : Outlook) (step : ClientStep) (moment : ℕ) (stop : Option ℕ) (safe : AreSafeJobs managed step.jobs)
+      (hold : AllHold step.client.ifaces) where
     abbrev life_with : ℕ → Option (List HostRow) → Supervision → List KeptFile → Life
     life_with unsent known hooks files =
         record { client = step.client; known = known; files = files; hooks = hooks; now = moment; stop = stop; unsent = unsent }
@@ -176,7 +183,8 @@ module _ (managed : List Managed) where
         both_ends IsSafeCall Any IsSafeLife (offering step.sends 0) (λ unsent. to_host unsent)
         (only_ends IsSafeCall (offering step.sends 0) (offering_only (MakesSo IsSafeCall) link_safe step.sends 0))
         (λ unsent any. both_ends IsSafeCall Any IsSafeLife (hosting managed (rows_of step.client) outlook.known) (λ known. to_hook unsent known)
-        (only_ends IsSafeCall (hosting managed (rows_of step.client) outlook.known) (hosting_only (MakesSo IsSafeCall) host_safe managed (rows_of step.client) outlook.known))
+        (only_ends IsSafeCall (hosting managed (rows_of step.client) outlook.known)
+        (hosting_only (MakesSo IsSafeCall) host_safe managed (rows_of step.client) outlook.known))
         (λ known any_too. both_ends IsSafeCall Waits IsSafeLife (hooking moment step.jobs outlook.hooks) (λ hooks. to_keep unsent known hooks)
         (hooking_ends moment step.jobs outlook.hooks safe waits) (λ hooks waiting. keep_ends unsent known hooks waiting)))
 
@@ -187,7 +195,8 @@ module _ (managed : List Managed) where
   turn_ends life wake bytes safe =
       let at : ℕ = turn_moment life wake in
       both_ends IsSafeCall Waits IsSafeLife (polling at life.hooks)
-      (λ hooks. acting managed (outlook_with life hooks) (step_of life wake bytes) at (stop_after life.stop wake.event at)) (polling_ends at life.hooks safe.waits)
+      (λ hooks. acting managed (outlook_with life hooks) (step_of life wake bytes) at (stop_after life.stop wake.event at))
+      (polling_ends at life.hooks safe.waits)
       (λ hooks waiting. acting_ends (outlook_with life hooks) (step_of life wake bytes) at (stop_after life.stop wake.event at)
       (turn_safe managed life.client.own (input_of life wake bytes) life.client.ifaces safe.hold)
       (turned_hold managed life.client.own (input_of life wake bytes) life.client.ifaces safe.hold) waiting)
@@ -209,15 +218,19 @@ module _ (managed : List Managed) where
     so = beginnings_managed (duid_with managed files) files.ifaces ∙ files_are_loaded managed calls files makes;
   }
 
-  all_begin : AreManaged managed → (files : FilesLoaded) → AllManaged files → AllByRecursion (λ (b : Beginning). OfHolder managed (resting b)) (beginnings_of managed files)
+  all_begin : AreManaged managed → (files : FilesLoaded) → AllManaged files
+      → AllByRecursion (λ (b : Beginning). OfHolder managed (resting b)) (beginnings_of managed files)
   all_begin fit files same =
-      all_mapped (IsHolder managed) (λ (b : Beginning). b.managed) (beginnings_of managed files) (subst (AllByRecursion (IsHolder managed)) (sym same) (all_holders managed fit))
+      all_mapped (IsHolder managed) (λ (b : Beginning). b.managed) (beginnings_of managed files)
+      (subst (AllByRecursion (IsHolder managed)) (sym same) (all_holders managed fit))
 
   opening_ends : AreManaged managed → (specs : List IfSpec) (begin : Begin) → Ends IsSafeLife (opening_asks managed specs begin)
   unfolding opening_asks
   opening_ends fit specs begin =
-      let acts : FilesLoaded → Asks Life = λ files. acting managed (outlook_from managed files) (opening_step managed files specs begin) (moment_of begin.at) None in
-      both_ends IsSafeCall Any IsSafeLife clearing (λ _. after (loading_files managed) acts) (only_ends IsSafeCall clearing (clearing_only (MakesSo IsSafeCall) store_safe))
+      let acts : FilesLoaded → Asks Life =
+      λ files. acting managed (outlook_from managed files) (opening_step managed files specs begin) (moment_of begin.at) None in
+      both_ends IsSafeCall Any IsSafeLife clearing (λ _. after (loading_files managed) acts)
+      (only_ends IsSafeCall clearing (clearing_only (MakesSo IsSafeCall) store_safe))
       (λ _ any. both_ends IsSafeCall AllManaged IsSafeLife (loading_files managed) acts loading_ends
       (λ files same. acting_ends (outlook_from managed files) (opening_step managed files specs begin) (moment_of begin.at) None
       (opening_safe managed begin.up (moment_of begin.at) begin.salt (beginnings_of managed files) (all_begin fit files same))
@@ -227,7 +240,8 @@ module _ (managed : List Managed) where
   jobs_of_calls [] safe = tt
   jobs_of_calls (call ∷ calls) safe = all_join Safe (job_in call) (flat_map job_in calls) safe.0 (jobs_of_calls calls safe.1)
 
-  life_safe : (specs : List IfSpec) (opening : OpeningMet) (mets : List Met) → AreManaged managed → IsOpening managed specs opening → AreTurns managed opening.life mets
+  life_safe : (specs : List IfSpec) (opening : OpeningMet) (mets : List Met) → AreManaged managed → IsOpening managed specs opening
+      → AreTurns managed opening.life mets
       → AreSafeJobs managed (flat_map job_in (opening.calls ++ turns_calls opening.life mets))
   life_safe specs opening mets fit opens turns =
       let ended : Ended IsSafeCall IsSafeLife opening.calls opening.life = opening_ends fit specs opening.begin opening.calls opening.life opens in

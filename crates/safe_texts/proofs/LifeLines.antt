@@ -99,7 +99,8 @@ all_named (one ∷ loaded) = all_join IsNamed (files_by one) (flat_map files_by 
 
 files_named : (managed : List Managed) (files : FilesLoaded) → AreNamed (files_of managed files)
 files_named managed files =
-    all_join IsNamed (file_with (Duid (duid_with managed files)) duid_file files.duid) (flat_map files_by files.ifaces ++ file_with Resolver resolver_file (Some files.resolver))
+    all_join IsNamed (file_with (Duid (duid_with managed files)) duid_file files.duid)
+    (flat_map files_by files.ifaces ++ file_with Resolver resolver_file (Some files.resolver))
     (file_named (Duid (duid_with managed files)) duid_file (λ e. absurd (duid_unlike e)) files.duid)
     (all_join IsNamed (flat_map files_by files.ifaces) (file_with Resolver resolver_file (Some files.resolver)) (all_named files.ifaces)
     (file_named Resolver resolver_file (λ e. refl) (Some files.resolver)))
@@ -130,7 +131,8 @@ clearing_ends : Ends Any clearing
 clearing_ends = then_ends IsLinesCall Any ListAsides clearing_listed (λ names. tt) listed_ends
 
 reading_ends : (is_kept : Bool) (name : List ℕ) → Ends Any (reading_if is_kept name)
-reading_ends true name = then_ends IsLinesCall Any (Read name) (λ reading. Done (Some reading)) (λ reading. tt) (λ reading. done_ends IsLinesCall Any (Some reading) tt)
+reading_ends true name =
+    then_ends IsLinesCall Any (Read name) (λ reading. Done (Some reading)) (λ reading. tt) (λ reading. done_ends IsLinesCall Any (Some reading) tt)
 reading_ends false name = done_ends IsLinesCall {A = Option Reading} Any None tt
 
 iface_ends : (m : Managed) → Ends Any (loading_one m)
@@ -150,7 +152,8 @@ ifaces_ends (m ∷ managed) =
 
 files_ends : (managed : List Managed) → Ends Any (loading_files managed)
 files_ends managed =
-    let resolver_asks : Option Reading → List Loaded → Asks FilesLoaded = λ duid ifaces. Then (Read resolver_file) (λ resolver. Done (files_loaded duid ifaces resolver)) in
+    let resolver_asks : Option Reading → List Loaded → Asks FilesLoaded =
+    λ duid ifaces. Then (Read resolver_file) (λ resolver. Done (files_loaded duid ifaces resolver)) in
     both_ends IsLinesCall Any Any (reading_if (some_need_duid managed) duid_file) (λ duid. after (loading managed) (resolver_asks duid))
     (reading_ends (some_need_duid managed) duid_file)
     (λ duid any. both_ends IsLinesCall Any Any (loading managed) (resolver_asks duid) (ifaces_ends managed)
@@ -171,8 +174,10 @@ bringing_ends name (Some bytes) lines =
     let settle : Asks Bool = Then Settle (λ settled. Done settled) in
     let rename : Asks Bool = Then (RenameAside name) (λ renamed. if_done renamed settle) in
     let sync : Asks Bool = Then (SyncAside name) (λ synced. if_done synced rename) in
-    let renaming : Ends Any rename = then_ends IsLinesCall Any (RenameAside name) (λ renamed. if_done renamed settle) (λ renamed. tt) (λ renamed. done_then renamed settle settle_ends) in
-    let syncing : Ends Any sync = then_ends IsLinesCall Any (SyncAside name) (λ synced. if_done synced rename) (λ synced. tt) (λ synced. done_then synced rename renaming) in
+    let renaming : Ends Any rename =
+    then_ends IsLinesCall Any (RenameAside name) (λ renamed. if_done renamed settle) (λ renamed. tt) (λ renamed. done_then renamed settle settle_ends) in
+    let syncing : Ends Any sync =
+    then_ends IsLinesCall Any (SyncAside name) (λ synced. if_done synced rename) (λ synced. tt) (λ synced. done_then synced rename renaming) in
     then_ends IsLinesCall Any (WriteAside name bytes) (λ written. if_done written sync) (λ written. lines) (λ written. done_then written sync syncing)
 bringing_ends name None lines =
     let settle : Asks Bool = Then Settle (λ settled. Done settled) in
@@ -194,7 +199,8 @@ module _ (ifaces : List Iface) (lines : IfSome (resolver_wanted ifaces) HasResol
   keeping_ends : (files : List KeptFile) → AreNamed files → Ends AreNamed (keeping ifaces files)
   keeping_ends [] named = done_ends IsLinesCall AreNamed [] tt
   keeping_ends (file ∷ files) named =
-      both_ends IsLinesCall IsNamed AreNamed (keeping_one (wanted_in ifaces file.keeps) file) (λ first. after (keeping ifaces files) (λ rest. Done (first ∷ rest)))
+      both_ends IsLinesCall IsNamed AreNamed (keeping_one (wanted_in ifaces file.keeps) file)
+      (λ first. after (keeping ifaces files) (λ rest. Done (first ∷ rest)))
       (one_ends file named.0)
       (λ first one. both_ends IsLinesCall AreNamed AreNamed (keeping ifaces files) (λ rest. Done (first ∷ rest)) (keeping_ends files named.1)
       (λ rest others. done_ends IsLinesCall AreNamed (first ∷ rest) (one, others)))
@@ -214,7 +220,8 @@ module _ (managed : List Managed) where
   told_lines : AllByRecursion IsFit managed → (ifaces : List Iface) → KeepsOctets ifaces → IfSome (resolver_wanted ifaces) HasResolverLines
   told_lines fit ifaces k = wanted_lines ifaces (all_mapped IsFit (λ (f : Iface). f.managed) ifaces (subst (AllByRecursion IsFit) (sym k.same) fit)) k.octets
 
-  module _ (fit : AllByRecursion IsFit managed) (outlook : Outlook) (named : AreNamed outlook.files) (step : ClientStep) (k : KeepsOctets step.client.ifaces) (moment : ℕ) (stop : Option ℕ) where
+  module _ (fit : AllByRecursion IsFit managed) (outlook : Outlook) (named : AreNamed outlook.files) (step : ClientStep) (k : KeepsOctets step.client.ifaces)
+      (moment : ℕ) (stop : Option ℕ) where
     abbrev life_with : ℕ → Option (List HostRow) → Supervision → List KeptFile → Life
     life_with unsent known hooks files =
         record { client = step.client; known = known; files = files; hooks = hooks; now = moment; stop = stop; unsent = unsent }
@@ -239,28 +246,32 @@ module _ (managed : List Managed) where
         both_ends IsLinesCall Any IsLinesLife (offering step.sends 0) (λ unsent. to_host unsent)
         (only_ends IsLinesCall (offering step.sends 0) (offering_only (MakesSo IsLinesCall) link_lines step.sends 0))
         (λ unsent any. both_ends IsLinesCall Any IsLinesLife (hosting managed (rows_of step.client) outlook.known) (λ known. to_hook unsent known)
-        (only_ends IsLinesCall (hosting managed (rows_of step.client) outlook.known) (hosting_only (MakesSo IsLinesCall) host_lines managed (rows_of step.client) outlook.known))
+        (only_ends IsLinesCall (hosting managed (rows_of step.client) outlook.known)
+        (hosting_only (MakesSo IsLinesCall) host_lines managed (rows_of step.client) outlook.known))
         (λ known any_too. both_ends IsLinesCall Any IsLinesLife (hooking moment step.jobs outlook.hooks) (λ hooks. to_keep unsent known hooks)
         (only_ends IsLinesCall (hooking moment step.jobs outlook.hooks) (hooking_only (MakesSo IsLinesCall) hook_lines moment step.jobs outlook.hooks))
         (λ hooks any_more. keep_ends unsent known hooks)))
 
   -- ---- turns
 
-  turn_keeps : (life : Life) (wake : Wake) (bytes : List ℕ) → AreBytes bytes → KeepsOctets life.client.ifaces → KeepsOctets (step_of life wake bytes).client.ifaces
+  turn_keeps : (life : Life) (wake : Wake) (bytes : List ℕ) → AreBytes bytes → KeepsOctets life.client.ifaces
+      → KeepsOctets (step_of life wake bytes).client.ifaces
   turn_keeps life wake bytes octets k = record {
     same = all_turned life.client.own (input_of life wake bytes) life.client.ifaces ∙ k.same;
     octets = steps_have HasOctets (map (iface_turned life.client.own (input_of life wake bytes)) life.client.ifaces)
         (all_turned_have HasOctets Good4 Good6 octets_kept life.client.own (input_of life wake bytes) (octets_good bytes octets) life.client.ifaces k.octets);
   }
 
-  turn_ends : AllByRecursion IsFit managed → (life : Life) (wake : Wake) (bytes : List ℕ) → AreBytes bytes → IsLinesLife life → Ends IsLinesLife (turn_asks managed life wake bytes)
+  turn_ends : AllByRecursion IsFit managed → (life : Life) (wake : Wake) (bytes : List ℕ) → AreBytes bytes → IsLinesLife life
+      → Ends IsLinesLife (turn_asks managed life wake bytes)
   unfolding turn_asks
   turn_ends fit life wake bytes octets lines =
       let at : ℕ = turn_moment life wake in
       both_ends IsLinesCall Any IsLinesLife (polling at life.hooks)
       (λ hooks. acting managed (outlook_with life hooks) (step_of life wake bytes) at (stop_after life.stop wake.event at))
       (only_ends IsLinesCall (polling at life.hooks) (polling_only (MakesSo IsLinesCall) hook_lines at life.hooks))
-      (λ hooks any. acting_ends fit (outlook_with life hooks) lines.named (step_of life wake bytes) (turn_keeps life wake bytes octets lines.keeps) at (stop_after life.stop wake.event at))
+      (λ hooks any. acting_ends fit (outlook_with life hooks) lines.named (step_of life wake bytes) (turn_keeps life wake bytes octets lines.keeps) at
+      (stop_after life.stop wake.event at))
 
   record EndsSo (calls : List Call) (life : Life) : Type 0 where
     each : AllByRecursion IsLinesCall calls
@@ -285,19 +296,22 @@ module _ (managed : List Managed) where
     so = beginnings_managed (duid_with managed files) files.ifaces ∙ files_are_loaded managed calls files makes;
   }
 
-  opening_keeps : (files : FilesLoaded) → AllManaged files → (specs : List IfSpec) (begin : Begin) → KeepsOctets (opening_step managed files specs begin).client.ifaces
+  opening_keeps : (files : FilesLoaded) → AllManaged files → (specs : List IfSpec) (begin : Begin)
+      → KeepsOctets (opening_step managed files specs begin).client.ifaces
   opening_keeps files same specs begin =
       let at : ℕ = moment_of begin.at in
       record {
         same = all_opened begin.up at begin.salt (beginnings_of managed files) ∙ same;
         octets = steps_have HasOctets (map (opened begin.up at begin.salt) (beginnings_of managed files))
-            (all_opened_have HasOctets Good4 Good6 octets_kept begin.up at begin.salt (beginnings_of managed files) (all_begin (duid_with managed files) files.ifaces));
+            (all_opened_have HasOctets Good4 Good6 octets_kept begin.up at begin.salt (beginnings_of managed files)
+            (all_begin (duid_with managed files) files.ifaces));
       }
 
   opening_ends : AllByRecursion IsFit managed → (specs : List IfSpec) (begin : Begin) → Ends IsLinesLife (opening_asks managed specs begin)
   unfolding opening_asks
   opening_ends fit specs begin =
-      let acts : FilesLoaded → Asks Life = λ files. acting managed (outlook_from managed files) (opening_step managed files specs begin) (moment_of begin.at) None in
+      let acts : FilesLoaded → Asks Life =
+      λ files. acting managed (outlook_from managed files) (opening_step managed files specs begin) (moment_of begin.at) None in
       both_ends IsLinesCall Any IsLinesLife clearing (λ _. after (loading_files managed) acts) clearing_ends
       (λ _ any. both_ends IsLinesCall AllManaged IsLinesLife (loading_files managed) acts loading_ends
       (λ files same. acting_ends fit (outlook_from managed files) (files_named managed files) (opening_step managed files specs begin)
@@ -306,7 +320,8 @@ module _ (managed : List Managed) where
   life_lines : (specs : List IfSpec) (opening : OpeningMet) (mets : List Met) → IsLife managed specs opening mets
       → EndsSo (opening.calls ++ turns_calls opening.life mets) (life_after opening.life mets)
   life_lines specs opening mets life =
-      let fit : AllByRecursion IsFit managed = all_both FitsManaged HasServers IsFit (λ m one other. record { fits = one; servers = other }) managed life.fit life.servers in
+      let fit : AllByRecursion IsFit managed =
+      all_both FitsManaged HasServers IsFit (λ m one other. record { fits = one; servers = other }) managed life.fit life.servers in
       let first : Ended IsLinesCall IsLinesLife opening.calls opening.life = opening_ends fit specs opening.begin opening.calls opening.life life.opens in
       let rest : EndsSo (turns_calls opening.life mets) (life_after opening.life mets) = turns_lines fit mets opening.life first.so life.turns life.octets in
       record { each = all_join IsLinesCall opening.calls (turns_calls opening.life mets) first.each rest.each; so = rest.so }
@@ -314,7 +329,8 @@ module _ (managed : List Managed) where
   life_wants_lines : (specs : List IfSpec) (opening : OpeningMet) (mets : List Met) → IsLife managed specs opening mets
       → IfSome (resolver_wanted (life_after opening.life mets).client.ifaces) HasResolverLines
   life_wants_lines specs opening mets life =
-      let fit : AllByRecursion IsFit managed = all_both FitsManaged HasServers IsFit (λ m one other. record { fits = one; servers = other }) managed life.fit life.servers in
+      let fit : AllByRecursion IsFit managed =
+      all_both FitsManaged HasServers IsFit (λ m one other. record { fits = one; servers = other }) managed life.fit life.servers in
       told_lines fit (life_after opening.life mets).client.ifaces (life_lines specs opening mets life).so.keeps
 
 pub wanted_lines_are_safe : WantedLinesAreSafe

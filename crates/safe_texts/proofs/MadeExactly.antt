@@ -100,15 +100,18 @@ bytes_of (Some value) h = h
 value_bytes : (code : ℕ) (values : List ValueContent) → AllByRecursion HasBytes values → IfSome (value_in code values) AreBytes
 value_bytes code values all = bytes_of (find (λ value. value.code == code) values) (found_bytes code values all)
 
-of_bytes : (Q : List ℕ → Type 0) (reading : List ℕ → Option (List ℕ)) → ((value : List ℕ) → AreBytes value → IfSome (reading value) Q) → (found : Option (List ℕ))
+of_bytes : (Q : List ℕ → Type 0) (reading : List ℕ → Option (List ℕ)) → ((value : List ℕ) → AreBytes value → IfSome (reading value) Q)
+    → (found : Option (List ℕ))
     → IfSome found AreBytes → IfSome (option_and_then reading found) Q
 of_bytes Q reading each None h = tt
 of_bytes Q reading each (Some value) h = each value h
 
-option_exact : (stage : Stage) (values : List ValueContent) → AllByRecursion HasBytes values → (variable : OptionVariable) → AreExact (option_told stage values variable)
+option_exact : (stage : Stage) (values : List ValueContent) → AllByRecursion HasBytes values → (variable : OptionVariable)
+    → AreExact (option_told stage values variable)
 option_exact stage values all variable =
     told_if_exact stage (option_word variable) (option_value values variable) (form_for (form_of (option_code variable))) (option_listed variable)
-    (of_bytes (IsOfForm (form_for (form_of (option_code variable)))) (value_text (form_of (option_code variable))) (value_spelled (form_of (option_code variable)))
+    (of_bytes (IsOfForm (form_for (form_of (option_code variable)))) (value_text (form_of (option_code variable)))
+    (value_spelled (form_of (option_code variable)))
     (value_in (option_code variable) values) (value_bytes (option_code variable) values all))
 
 options_exact : (stage : Stage) (values : List ValueContent) → AllByRecursion HasBytes values → AreExact (option_variables stage values)
@@ -143,7 +146,9 @@ record FitsIaTexts (ia : IaLeaseContent) : Type 0 where
 
 ia_fits : (ia : IaLeaseContent) → FitsIa ia → IsTypedIa ia → FitsIaTexts ia
 ia_fits ia fits typed = record {
-  each = all_both (FitsItem ia.kind) (λ (item : Item6). FitsIp6 item.net.ip) (FitsKind ia.kind) (λ item f t. record { fits = f; typed = t }) ia.items fits.each typed.items;
+  each =
+      all_both (FitsItem ia.kind) (λ (item : Item6). FitsIp6 item.net.ip) (FitsKind ia.kind)
+      (λ item f t. record { fits = f; typed = t }) ia.items fits.each typed.items;
 }
 
 address_spelled : (item : Item6) → FitsKind Na item → Spells grammar.Address6 (address_item item)
@@ -155,11 +160,13 @@ longest len short = omega (arith, short)
 prefix_spelled : (item : Item6) → FitsKind Pd item → Spells grammar.Network6 (prefix_item item)
 prefix_spelled item fits = net6_spelled item.net (record { address = fits.typed; prefix = longest item.net.len fits.fits.len.1 })
 
-addresses_spelled : (kind : IaKind) (items : List Item6) → AllByRecursion (FitsKind kind) items → AllByRecursion (Spells grammar.Address6) (addresses_in kind items)
+addresses_spelled : (kind : IaKind) (items : List Item6) → AllByRecursion (FitsKind kind) items
+    → AllByRecursion (Spells grammar.Address6) (addresses_in kind items)
 addresses_spelled Na items all = all_mapped_so (FitsKind Na) (Spells grammar.Address6) address_item address_spelled items all
 addresses_spelled Pd items all = tt
 
-prefixes_spelled : (kind : IaKind) (items : List Item6) → AllByRecursion (FitsKind kind) items → AllByRecursion (Spells grammar.Network6) (prefixes_in kind items)
+prefixes_spelled : (kind : IaKind) (items : List Item6) → AllByRecursion (FitsKind kind) items
+    → AllByRecursion (Spells grammar.Network6) (prefixes_in kind items)
 prefixes_spelled Na items all = tt
 prefixes_spelled Pd items all = all_mapped_so (FitsKind Pd) (Spells grammar.Network6) prefix_item prefix_spelled items all
 
@@ -182,7 +189,8 @@ lease6_exact stage lease has lease6.Prefixes =
     (texts_of_all FitsIaTexts (Spells grammar.Network6) ia_prefixes (λ ia fits. prefixes_spelled ia.kind ia.items fits.each) lease.ias (ias_fit lease has)))
 lease6_exact stage lease has lease6.NameServers =
     told_if_exact stage (lease6_word lease6.NameServers) (lease6_value lease lease6.NameServers) (Several grammar.Address6) (16, omega arith, refl)
-    (of_bytes (IsOfForm (Several grammar.Address6)) servers6_text servers6_spelled (value_in DNS_SERVERS lease.values) (value_bytes DNS_SERVERS lease.values has.typed.values))
+    (of_bytes (IsOfForm (Several grammar.Address6)) servers6_text servers6_spelled (value_in DNS_SERVERS lease.values)
+    (value_bytes DNS_SERVERS lease.values has.typed.values))
 lease6_exact stage lease has lease6.DomainSearch =
     told_if_exact stage (lease6_word lease6.DomainSearch) (lease6_value lease lease6.DomainSearch) (Several grammar.DomainName) (17, omega arith, refl)
     (of_bytes (IsOfForm (Several grammar.DomainName)) names6_text (λ value h. names6_spelled value) (value_in DOMAIN_LIST lease.values)
@@ -246,12 +254,14 @@ module _ (situation : SituationContent) (fits : FitsSituation situation) where
       of_job (job_word job.Carrier) (carrier_word situation.up) (One (OneOf CARRIER_WORDS)) (2, omega arith, refl)
       (record { word = carrier_made situation.up; among = carrier_among situation.up })
   job_exact job.Metric =
-      of_job (job_word job.Metric) (decimal situation.metric) (One (Number (2 ^ 32))) (3, omega arith, refl) (number_below (2 ^ 32) situation.metric fits.metric)
+      of_job (job_word job.Metric) (decimal situation.metric) (One (Number (2 ^ 32))) (3, omega arith, refl)
+      (number_below (2 ^ 32) situation.metric fits.metric)
 
   made_exact : AreExact (made_variables situation)
   made_exact =
       all_join IsExact (map (job_said situation) JOB_VARIABLES) _ (all_mapped (job_said situation) job_exact JOB_VARIABLES)
-      (all_join IsExact (variables_if (tells_before situation.reason) Before situation.held_before) (variables_if (tells_now situation.reason) Now situation.held_now)
+      (all_join IsExact (variables_if (tells_before situation.reason) Before situation.held_before)
+      (variables_if (tells_now situation.reason) Now situation.held_now)
       (if_told_exact (tells_before situation.reason) Before situation.held_before fits.held_before)
       (if_told_exact (tells_now situation.reason) Now situation.held_now fits.held_now))
 

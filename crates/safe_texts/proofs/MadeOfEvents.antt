@@ -94,7 +94,8 @@ option_listed option.ClasslessRoutes = (11, omega arith, refl)
 option_safe : (stage : Stage) (values : List ValueContent) (variable : OptionVariable) → AreSafe (option_told stage values variable)
 option_safe stage values variable =
     told_if_safe stage (option_word variable) (option_value values variable) (form_for (form_of (option_code variable))) (option_listed variable)
-    (found_formed (HasForm (form_for (form_of (option_code variable)))) (value_text (form_of (option_code variable))) (value_formed (form_of (option_code variable)))
+    (found_formed (HasForm (form_for (form_of (option_code variable)))) (value_text (form_of (option_code variable)))
+    (value_formed (form_of (option_code variable)))
     (value_in (option_code variable) values))
 
 options_safe : (stage : Stage) (values : List ValueContent) → AreSafe (option_variables stage values)
@@ -113,7 +114,8 @@ lease_safe stage lease =
 
 -- ---- of IPv6
 
-pub texts_flat : {A : Type 0} (P : List ℕ → Type 0) (f : A → List (List ℕ)) → ((x : A) → AllByRecursion P (f x)) → (xs : List A) → AllByRecursion P (flat_map f xs)
+pub texts_flat : {A : Type 0} (P : List ℕ → Type 0) (f : A → List (List ℕ)) → ((x : A) → AllByRecursion P (f x)) → (xs : List A)
+    → AllByRecursion P (flat_map f xs)
 texts_flat P f each [] = tt
 texts_flat P f each (x ∷ xs) = all_join P (f x) (flat_map f xs) (each x) (texts_flat P f each xs)
 
@@ -128,10 +130,12 @@ prefixes_made Pd items = mapped_all (HasGrammar grammar.Network6) prefix_item (�
 lease6_safe : (stage : Stage) (lease : Lease6Content) (variable : Lease6Variable) → AreSafe (lease6_told stage lease variable)
 lease6_safe stage lease lease6.Addresses =
     told_if_safe stage (lease6_word lease6.Addresses) (lease6_value lease lease6.Addresses) (Several grammar.Address6) (14, omega arith, refl)
-    (texts_listed (HasGrammar grammar.Address6) (flat_map ia_addresses lease.ias) (texts_flat (HasGrammar grammar.Address6) ia_addresses (λ ia. addresses_made ia.kind ia.items) lease.ias))
+    (texts_listed (HasGrammar grammar.Address6) (flat_map ia_addresses lease.ias)
+    (texts_flat (HasGrammar grammar.Address6) ia_addresses (λ ia. addresses_made ia.kind ia.items) lease.ias))
 lease6_safe stage lease lease6.Prefixes =
     told_if_safe stage (lease6_word lease6.Prefixes) (lease6_value lease lease6.Prefixes) (Several grammar.Network6) (15, omega arith, refl)
-    (texts_listed (HasGrammar grammar.Network6) (flat_map ia_prefixes lease.ias) (texts_flat (HasGrammar grammar.Network6) ia_prefixes (λ ia. prefixes_made ia.kind ia.items) lease.ias))
+    (texts_listed (HasGrammar grammar.Network6) (flat_map ia_prefixes lease.ias)
+    (texts_flat (HasGrammar grammar.Network6) ia_prefixes (λ ia. prefixes_made ia.kind ia.items) lease.ias))
 lease6_safe stage lease lease6.NameServers =
     told_if_safe stage (lease6_word lease6.NameServers) (lease6_value lease lease6.NameServers) (Several grammar.Address6) (16, omega arith, refl)
     (found_formed (HasForm (Several grammar.Address6)) servers6_text servers6_formed (value_in DNS_SERVERS lease.values))
@@ -200,7 +204,8 @@ module _ (situation : SituationContent) (fits : FitsName situation.interface.nam
   made_safe : AreSafe (made_variables situation)
   made_safe =
       all_join IsSafe (map (job_said situation) JOB_VARIABLES) _ (all_mapped (job_said situation) job_safe JOB_VARIABLES)
-      (all_join IsSafe (variables_if (tells_before situation.reason) Before situation.held_before) (variables_if (tells_now situation.reason) Now situation.held_now)
+      (all_join IsSafe (variables_if (tells_before situation.reason) Before situation.held_before)
+      (variables_if (tells_now situation.reason) Now situation.held_now)
       (if_told_safe (tells_before situation.reason) Before situation.held_before) (if_told_safe (tells_now situation.reason) Now situation.held_now))
 
 pub made_variables_are_safe : MadeVariablesAreSafe

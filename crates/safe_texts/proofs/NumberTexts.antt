@@ -43,7 +43,8 @@ onto_some : (k n d : ℕ) (text : List ℕ) → digits_onto k 10 false n (d ∷ 
 onto_some zero n d text = filled d text
 onto_some (suc k) n d text =
     gated (λ (t : List ℕ). t ≢ []) (eqb (n / 10) 0) (digit_glyph false (n % 10) ∷ d ∷ text)
-    (digits_onto k 10 false (n / 10) (digit_glyph false (n % 10) ∷ d ∷ text)) (filled (digit_glyph false (n % 10)) (d ∷ text)) (onto_some k (n / 10) (digit_glyph false (n % 10)) (d ∷ text))
+    (digits_onto k 10 false (n / 10) (digit_glyph false (n % 10) ∷ d ∷ text)) (filled (digit_glyph false (n % 10)) (d ∷ text))
+    (onto_some k (n / 10) (digit_glyph false (n % 10)) (d ∷ text))
 
 onto_first : (k n : ℕ) → digits_onto (suc k) 10 false n [] ≢ []
 onto_first k n =

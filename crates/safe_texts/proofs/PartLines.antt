@@ -50,11 +50,15 @@ addresses_fit (a ∷ b ∷ c ∷ d ∷ rest) h =
     (four_bytes_fit (a ∷ b ∷ c ∷ d ∷ []) (take_bytes 4 (a ∷ b ∷ c ∷ d ∷ rest) h), addresses_fit rest (drop_bytes 4 (a ∷ b ∷ c ∷ d ∷ rest) h))
 
 addrs_fit : (value : List ℕ) → AreBytes value → IfSome (addrs_in value) Are4
-addrs_fit value h = gated (λ (o : Option (List Ip4)). IfSome o Are4) (ltb 0 (length value) && eqb (length value % 4) 0) (Some (addresses value)) None (addresses_fit value h) tt
+addrs_fit value h =
+    gated (λ (o : Option (List Ip4)). IfSome o Are4) (ltb 0 (length value) && eqb (length value % 4) 0) (Some (addresses value)) None (addresses_fit value h) tt
 
 counted_fit : (count : ℕ) (value : List ℕ) → AreBytes value → Are6 (addresses_in count value)
 counted_fit zero value h = tt
-counted_fit (suc count) value h = (sixteen_bytes_fit (take 16 (drop 0 value)) (take_bytes 16 (drop 0 value) (drop_bytes 0 value h)), counted_fit count (drop 16 value) (drop_bytes 16 value h))
+counted_fit (suc count) value h = (
+  sixteen_bytes_fit (take 16 (drop 0 value)) (take_bytes 16 (drop 0 value) (drop_bytes 0 value h)),
+  counted_fit count (drop 16 value) (drop_bytes 16 value h),
+)
 
 dns6_fit : (value : List ℕ) → AreBytes value → IfSome (dns6_in value) Are6
 dns6_fit value h =
@@ -69,7 +73,8 @@ bytes_of (Some value) h = h
 
 found_octets : (test : ValueContent → Bool) (values : List ValueContent) → OctetValues values → IfSome (find test values) OctetValue
 found_octets test [] h = tt
-found_octets test (value ∷ values) h = gated (λ (o : Option ValueContent). IfSome o OctetValue) (test value) (Some value) (find test values) h.0 (found_octets test values h.1)
+found_octets test (value ∷ values) h =
+    gated (λ (o : Option ValueContent). IfSome o OctetValue) (test value) (Some value) (find test values) h.0 (found_octets test values h.1)
 
 value_octets : (code : ℕ) (values : List ValueContent) → OctetValues values → IfSome (value_in code values) AreBytes
 value_octets code values h = bytes_of (find (λ value. value.code == code) values) (found_octets (λ value. value.code == code) values h)
@@ -103,7 +108,9 @@ ArePartsFit parts = AllByRecursion FitsPart parts
 
 module _ (f : Iface) (fits : FitsManaged f.managed) (servers : HasServers f.managed) (octets : HasOctets f) where
   held4 : OctetValues (values_held (dhcp4.held_of f.dhcp4))
-  held4 = by_lease (dhcp4.held_of f.dhcp4) (gated (λ (o : Option LeaseContent). IfSome o (λ (l : LeaseContent). OctetValues l.values)) _ f.dhcp4.kept None octets.kept4 tt)
+  held4 =
+      by_lease (dhcp4.held_of f.dhcp4)
+      (gated (λ (o : Option LeaseContent). IfSome o (λ (l : LeaseContent). OctetValues l.values)) _ f.dhcp4.kept None octets.kept4 tt)
     where
       by_lease : (lease : Option LeaseContent) → IfSome lease (λ (l : LeaseContent). OctetValues l.values) → OctetValues (values_held lease)
       by_lease None h = tt
@@ -122,7 +129,9 @@ module _ (f : Iface) (fits : FitsManaged f.managed) (servers : HasServers f.mana
   part6_fits : (lease : Lease6Content) → OctetValues lease.values → FitsPart (part6_with f.managed lease)
   part6_fits lease h = record {
     name = fits.name;
-    servers = as6 (read_as dns6_in DNS_SERVERS lease.values) (read_all FitsIp6 dns6_in dns6_fit (value_in DNS_SERVERS lease.values) (value_octets DNS_SERVERS lease.values h));
+    servers =
+        as6 (read_as dns6_in DNS_SERVERS lease.values)
+        (read_all FitsIp6 dns6_in dns6_fit (value_in DNS_SERVERS lease.values) (value_octets DNS_SERVERS lease.values h));
   }
 
   parts6_fit : (lease : Option Lease6Content) → IfSome lease (λ (l : Lease6Content). OctetValues l.values) → ArePartsFit (parts6 f.managed lease)
@@ -132,7 +141,8 @@ module _ (f : Iface) (fits : FitsManaged f.managed) (servers : HasServers f.mana
   parts_fit : ArePartsFit (iface_parts f)
   parts_fit =
       all_join FitsPart (parts4 f) (parts6 f.managed (dhcp6.held_of f.dhcp6)) parts4_fit
-      (parts6_fit (dhcp6.held_of f.dhcp6) (gated (λ (o : Option Lease6Content). IfSome o (λ (l : Lease6Content). OctetValues l.values)) _ f.dhcp6.kept None octets.kept6 tt))
+      (parts6_fit (dhcp6.held_of f.dhcp6)
+      (gated (λ (o : Option Lease6Content). IfSome o (λ (l : Lease6Content). OctetValues l.values)) _ f.dhcp6.kept None octets.kept6 tt))
 
 -- ---- of all interfaces
 

@@ -49,13 +49,15 @@ line_plain : (place : Place) (line : Directive) (said : Option SaidContent) → 
 line_plain place line None plain = tt
 line_plain place line (Some said) plain = plain
 
-standing_plain : (heading : Option HeadingName) (place : Place) (line : Directive) (stands : Standing) → StandsUnder heading place line stands → PlainStanding stands
+standing_plain : (heading : Option HeadingName) (place : Place) (line : Directive) (stands : Standing) → StandsUnder heading place line stands
+    → PlainStanding stands
 standing_plain (Some Interface) place line stands here = subst PlainStanding (sym here.2) (heading_plain place line here.0)
 standing_plain (Some Profile) place line stands here = subst PlainStanding (sym here) tt
 standing_plain (Some Ssid) place line stands here = subst PlainStanding (sym here) tt
 standing_plain None place line stands here = subst PlainStanding (sym here.2) (line_plain place line here.0 (at_plain place line here.0 here.1))
 
-front_plain : (place : Place) (lines : List Directive) (front : List Standing) (rest : List Directive) → StandFrom place lines front rest → AllByRecursion PlainStanding front
+front_plain : (place : Place) (lines : List Directive) (front : List Standing) (rest : List Directive) → StandFrom place lines front rest
+    → AllByRecursion PlainStanding front
 front_plain place lines [] rest stand = tt
 front_plain place [] (stands ∷ front) rest stand = absurd stand
 front_plain place (line ∷ lines) (stands ∷ front) rest stand =
@@ -67,7 +69,8 @@ with_found : {X : Type 0} (P : X → Type 0) (o : Option X) (xs : List X) → If
 with_found P None xs one all = all
 with_found P (Some x) xs one all = (one, all)
 
-found : {C X : Type 0} (f : C → Option X) (Q : C → Type 0) (P : X → Type 0) → ((c : C) → Q c → IfSome (f c) P) → (cs : List C) → AllByRecursion Q cs → AllByRecursion P (filter_map f cs)
+found : {C X : Type 0} (f : C → Option X) (Q : C → Type 0) (P : X → Type 0) → ((c : C) → Q c → IfSome (f c) P) → (cs : List C) → AllByRecursion Q cs
+    → AllByRecursion P (filter_map f cs)
 found f Q P each [] all = tt
 found f Q P each (c ∷ cs) all = with_found P (f c) (filter_map f cs) (each c all.0) (found f Q P each cs all.1)
 
@@ -75,7 +78,8 @@ last_so : {X : Type 0} (P : X → Type 0) (o : Option X) (xs : List X) → IfSom
 last_so P o [] one all = one
 last_so P o (x ∷ xs) one all = last_so P (Some x) xs all.0 all.1
 
-last_found : {C X : Type 0} (f : C → Option X) (Q : C → Type 0) (P : X → Type 0) → ((c : C) → Q c → IfSome (f c) P) → (cs : List C) → AllByRecursion Q cs → IfSome (last_of f cs) P
+last_found : {C X : Type 0} (f : C → Option X) (Q : C → Type 0) (P : X → Type 0) → ((c : C) → Q c → IfSome (f c) P) → (cs : List C) → AllByRecursion Q cs
+    → IfSome (last_of f cs) P
 last_found f Q P each cs all = last_so P None (filter_map f cs) tt (found f Q P each cs all)
 
 either_so : {X : Type 0} (P : X → Type 0) (block global : Option X) → IfSome block P → IfSome global P → IfSome (option_or block global) P
@@ -105,7 +109,8 @@ record PlainScope (scope : ScopeContent) : Type 0 where
 scope_plain : (lines : List DirectiveContent) → AllByRecursion Plain lines → PlainScope (scope_of lines)
 scope_plain lines all = record {
   env = found env_said Plain IsPlainEnv env_one lines all;
-  servers = last_found name_servers_in PlainStatic Are4 servers_one (filter_map of.static_said lines) (found of.static_said Plain PlainStatic static_one lines all);
+  servers =
+      last_found name_servers_in PlainStatic Are4 servers_one (filter_map of.static_said lines) (found of.static_said Plain PlainStatic static_one lines all);
 }
 
 place_plain : (place : Place) (front : List Standing) → AllByRecursion PlainStanding front → AllByRecursion Plain (said_at_place place front)
@@ -134,7 +139,8 @@ list_plain : (found : Option (List Ip4)) → IfSome found Are4 → Are4 (unwrap_
 list_plain None fit = tt
 list_plain (Some servers) fit = fit
 
-in_force_plain : (conf : Configuration) (specs : List IfSpec) (spec : IfSpec) → PlainScope conf.global → PlainScope (scope_for conf.blocks spec.name) → IfSome conf.script IsPrintable
+in_force_plain : (conf : Configuration) (specs : List IfSpec) (spec : IfSpec) → PlainScope conf.global → PlainScope (scope_for conf.blocks spec.name)
+    → IfSome conf.script IsPrintable
     → IsPlainlyConfigured (record { spec = spec; conf = settings_for conf specs spec })
 in_force_plain conf specs spec global block script =
     let scope : ScopeContent = scope_for conf.blocks spec.name in
@@ -151,7 +157,8 @@ scope_found None plain = scope_plain [] tt
 scope_found (Some block) plain = plain
 
 module _ (front : List Standing) (all : AllByRecursion PlainStanding front) where
-  found_block : (test : BlockContent → Bool) (names : List Name) → IfSome (find test (map (block_of front) names)) (λ (block : BlockContent). PlainScope block.scope)
+  found_block : (test : BlockContent → Bool) (names : List Name)
+      → IfSome (find test (map (block_of front) names)) (λ (block : BlockContent). PlainScope block.scope)
   found_block test [] = tt
   found_block test (name ∷ names) = by (test (block_of front name)) (found_block test names)
     where
@@ -171,7 +178,8 @@ module _ (front : List Standing) (all : AllByRecursion PlainStanding front) wher
   block_plain : (name : Name) → PlainScope (scope_for (configured front).blocks name)
   unfolding configured
   block_plain name =
-      scope_found (find (λ block. is_named name block.name) (map (block_of front) (names_in front))) (found_block (λ block. is_named name block.name) (names_in front))
+      scope_found (find (λ block. is_named name block.name) (map (block_of front) (names_in front)))
+      (found_block (λ block. is_named name block.name) (names_in front))
 
   one_plain : (specs : List IfSpec) (spec : IfSpec) → IfSome (managed_with spec (settings_of (configured front) specs spec)) IsPlainlyConfigured
   one_plain specs spec = by (is_managed (configured front) spec.name)
@@ -180,7 +188,8 @@ module _ (front : List Standing) (all : AllByRecursion PlainStanding front) wher
       by true = in_force_plain (configured front) specs spec global_plain (block_plain spec.name) path_of_all
       by false = tt
 
-  among_plain : (specs these : List IfSpec) → AllByRecursion IsPlainlyConfigured (filter_map (λ spec. managed_with spec (settings_of (configured front) specs spec)) these)
+  among_plain : (specs these : List IfSpec)
+      → AllByRecursion IsPlainlyConfigured (filter_map (λ spec. managed_with spec (settings_of (configured front) specs spec)) these)
   among_plain specs [] = tt
   among_plain specs (spec ∷ these) =
       with_found IsPlainlyConfigured (managed_with spec (settings_of (configured front) specs spec)) _ (one_plain specs spec) (among_plain specs these)

@@ -75,7 +75,8 @@ Plain _ = Unit {0}
 abbrev pub PlainSaid : SaidContent → Type 0
 PlainSaid said = IfSome said.directive Plain
 
-then_so : {X Y : Type 0} (o : Option X) (f : X → Option Y) (Q : X → Type 0) (P : Y → Type 0) → IfSome o Q → ((x : X) → Q x → IfSome (f x) P) → IfSome (option_and_then f o) P
+then_so : {X Y : Type 0} (o : Option X) (f : X → Option Y) (Q : X → Type 0) (P : Y → Type 0) → IfSome o Q → ((x : X) → Q x → IfSome (f x) P)
+    → IfSome (option_and_then f o) P
 then_so None f Q P so each = tt
 then_so (Some x) f Q P so each = each x so
 
@@ -86,7 +87,9 @@ printed_plain limit text = some_if (is_printed limit text) text IsPrintable (λ 
 
 parts_plain : (front : List ℕ) (byte : ℕ) (rest : List ℕ) → IsPrintable (front ++ byte ∷ rest) → IsPrintable front × IsPrintable rest
 parts_plain front byte rest plain =
-    let both = and_parts (list_all is_printable front) (list_all is_printable (byte ∷ rest)) (subst (λ (b : Bool). b ≡ true) (list_all-append is_printable front (byte ∷ rest)) plain) in
+    let both =
+    and_parts (list_all is_printable front) (list_all is_printable (byte ∷ rest))
+    (subst (λ (b : Bool). b ≡ true) (list_all-append is_printable front (byte ∷ rest)) plain) in
     (both.0, (and_parts (is_printable byte) (list_all is_printable rest) both.1).1)
 
 split_plain : (text : List ℕ) → IsPrintable text → IfSome (split_at_byte equals_sign text) (λ (p : List ℕ × List ℕ). IsPrintable p.0 × IsPrintable p.1)
@@ -100,7 +103,8 @@ env_plain p plain = some_if (is_some_text p.0) (variable_of p) IsPlainEnv (λ e.
 variable_plain : (text : List ℕ) → IfSome (variable text) IsPlainEnv
 variable_plain text =
     then_so (printed TEXT_LIMIT text) (λ whole. split_at_byte equals_sign whole >>= variable_by) IsPrintable IsPlainEnv (printed_plain TEXT_LIMIT text)
-    (λ whole plain. then_so (split_at_byte equals_sign whole) variable_by (λ (p : List ℕ × List ℕ). IsPrintable p.0 × IsPrintable p.1) IsPlainEnv (split_plain whole plain) env_plain)
+    (λ whole plain. then_so (split_at_byte equals_sign whole) variable_by (λ (p : List ℕ × List ℕ). IsPrintable p.0 × IsPrintable p.1) IsPlainEnv
+    (split_plain whole plain) env_plain)
 
 -- ---- addresses
 
@@ -111,7 +115,8 @@ all_read : (texts : List (List ℕ)) → IfSome (read_all ip4_at texts) Are4
 all_read [] = tt
 all_read (text ∷ texts) = one_more (ip4_at text) (read_all ip4_at texts) (ip4_fits text) (all_read texts)
   where
-    one_more : (o : Option Ip4) (os : Option (List Ip4)) → IfSome o FitsIp4 → IfSome os Are4 → IfSome (option_and_then (λ x. option_and_then (λ xs. Some (x ∷ xs)) os) o) Are4
+    one_more : (o : Option Ip4) (os : Option (List Ip4)) → IfSome o FitsIp4 → IfSome os Are4
+        → IfSome (option_and_then (λ x. option_and_then (λ xs. Some (x ∷ xs)) os) o) Are4
     one_more None os fits fit = tt
     one_more (Some x) None fits fit = tt
     one_more (Some x) (Some xs) fits fit = (fits, fit)
@@ -179,20 +184,23 @@ ia_plain Pd [] = tt
 ia_plain Pd (text ∷ words) =
     some_then (asked_by (slash_parts text)) (λ asked. option_and_then (prefix_by words asked) (read_all share words)) PlainSaid
     (λ asked. some_then (read_all share words) (prefix_by words asked) PlainSaid
-    (λ shares. some_if (are_planned asked.hint shares) (record { directive = Some (Ia (prefix asked shares)); notices = flat_map left_over words }) PlainSaid (λ planned. tt)))
+    (λ shares. some_if (are_planned asked.hint shares) (record { directive = Some (Ia (prefix asked shares)); notices = flat_map left_over words }) PlainSaid
+    (λ planned. tt)))
 
 codes_plain : (list : CodeList) (arguments : List (List ℕ)) → IfSome (codes_said list arguments) PlainSaid
 codes_plain list arguments = some_if (are_right list (flat_map options_of arguments)) (codes_of list (flat_map options_of arguments)) PlainSaid (λ e. tt)
 
 value_plain : (name : ValueName) (arguments : List (List ℕ)) → IfSome (value_said name arguments) Plain
-value_plain (values.Seconds name) arguments = some_map (only arguments >>= number_at 86401) (Seconds name) Plain (some_unit (only arguments >>= number_at 86401))
+value_plain (values.Seconds name) arguments =
+    some_map (only arguments >>= number_at 86401) (Seconds name) Plain (some_unit (only arguments >>= number_at 86401))
 value_plain values.Metric arguments = some_map (only arguments >>= number_at (2 ^ 32)) Metric Plain (some_unit (only arguments >>= number_at (2 ^ 32)))
 value_plain values.VendorClass arguments = some_map (vendor_class arguments) VendorClass Plain (some_unit (vendor_class arguments))
 value_plain values.ClientId arguments = some_map (client_id arguments) ClientIs Plain (some_unit (client_id arguments))
 value_plain values.Env arguments = some_map (only arguments >>= variable) Variable Plain (some_then (only arguments) variable IsPlainEnv variable_plain)
 value_plain values.Blacklist arguments = some_map (one_or_more server_net arguments) Blacklist Plain (some_unit (one_or_more server_net arguments))
 value_plain (values.Interfaces list) arguments = some_map (one_or_more pattern arguments) (Interfaces list) Plain (some_unit (one_or_more pattern arguments))
-value_plain values.Script arguments = some_map (only arguments >>= printed 255) Script Plain (some_then (only arguments) (printed 255) IsPrintable (printed_plain 255))
+value_plain values.Script arguments =
+    some_map (only arguments >>= printed 255) Script Plain (some_then (only arguments) (printed 255) IsPrintable (printed_plain 255))
 
 pub answer_plain : (answer said : Option SaidContent) → answer ≡ said → IfSome said PlainSaid → IfSome answer PlainSaid
 answer_plain answer said e plain = subst (λ (o : Option SaidContent). IfSome o PlainSaid) (sym e) plain
@@ -209,4 +217,5 @@ says_plain (Some names.HostName) word about answer says = answer_plain answer (h
 says_plain (Some (names.Codes list)) word about answer says = answer_plain answer (codes_said list says.arguments) says.says (codes_plain list says.arguments)
 says_plain (Some (names.Ia kind)) word about answer says = answer_plain answer (ia_said kind says.arguments) says.says (ia_plain kind says.arguments)
 says_plain (Some (names.Value name)) word about answer says =
-    answer_plain answer (option_map taken (value_said name says.arguments)) says.says (some_map (value_said name says.arguments) taken PlainSaid (value_plain name says.arguments))
+    answer_plain answer (option_map taken (value_said name says.arguments)) says.says
+    (some_map (value_said name says.arguments) taken PlainSaid (value_plain name says.arguments))

@@ -113,7 +113,8 @@ both P (Some xs) some each = record { some = some; each = each }
 
 addrs_fit : (value : List ℕ) → AreBytes value → IfSome (addrs_in value) (AllByRecursion FitsIp4)
 addrs_fit value h =
-    gated (λ (o : Option (List Ip4)). IfSome o (AllByRecursion FitsIp4)) (ltb 0 (length value) && eqb (length value % 4) 0) (Some (addresses value)) None (each_fits value h) tt
+    gated (λ (o : Option (List Ip4)). IfSome o (AllByRecursion FitsIp4)) (ltb 0 (length value) && eqb (length value % 4) 0) (Some (addresses value)) None
+    (each_fits value h) tt
 
 two_small : (value : List ℕ) → AreBytes value → eqb (length value) 2 ≡ true → from_be_bytes w16 value < 2 ^ 16
 two_small [] h e = absurd (false≢true e)
@@ -217,7 +218,8 @@ value_spelled Number16 value h = of_read (λ n. n < 2 ^ 16) (IsNumberBelow (2 ^ 
 value_spelled Number32 value h = of_read (λ n. n < 2 ^ 32) (IsNumberBelow (2 ^ 32)) decimal (number_below (2 ^ 32)) (u32_in value) (u32_fits value h)
 value_spelled DomainName value h = text_named value
 value_spelled DomainNames value h = of_read AreSomeNames (IsListOf (Spells grammar.DomainName)) listed names_listed (search_in value) (search_named value)
-value_spelled Routes value h = list_spelled FitsRoute (IsPair IsNetwork4 IsAddress4) route_text route_spelled (routes_in value) (routes_some value) (all_fit value h)
+value_spelled Routes value h =
+    list_spelled FitsRoute (IsPair IsNetwork4 IsAddress4) route_text route_spelled (routes_in value) (routes_some value) (all_fit value h)
 value_spelled Opaque value h = tt
 
 pub servers6_spelled : (value : List ℕ) → AreBytes value → IfSome (servers6_text value) (IsListOf IsAddress6)

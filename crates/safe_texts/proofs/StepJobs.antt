@@ -88,7 +88,8 @@ module _ (managed : List Managed) where
   abbrev Safe : Job → Type 0
   Safe job = IsSafeJob managed job
 
-  pub jobs_safe : (why : Reason) (m : Managed) → IsHolder m → (up : Bool) (held_before held_now : HeldContent) → AreSafeJobs managed (jobs_of why m up held_before held_now)
+  pub jobs_safe : (why : Reason) (m : Managed) → IsHolder m → (up : Bool) (held_before held_now : HeldContent)
+      → AreSafeJobs managed (jobs_of why m up held_before held_now)
   jobs_safe why m holder up held_before held_now = by_script (script_path m.conf.hooks.script) refl
     where
       by_script : (found : Option (List ℕ)) → script_path m.conf.hooks.script ≡ found
@@ -182,7 +183,8 @@ module _ (managed : List Managed) where
 
   reports_safe : (reports : List Report) → AllByRecursion (λ (r : Report). OfHolder r.after) reports → AllTold (flat_map told_by reports)
   reports_safe [] all = tt
-  reports_safe (r ∷ reports) all = all_join SafeTold (told_by r) (flat_map told_by reports) (news_safe r.news r.before r.after all.0) (reports_safe reports all.1)
+  reports_safe (r ∷ reports) all =
+      all_join SafeTold (told_by r) (flat_map told_by reports) (news_safe r.news r.before r.after all.0) (reports_safe reports all.1)
 
   -- ---- the jobs of interfaces, one after another
 
@@ -221,19 +223,23 @@ module _ (managed : List Managed) where
       (reports_safe step.reports all.0.reports))
       (along_safe (gone ++ step.iface ∷ []) (drop 1 coming) steps (all_join OfHolder gone (step.iface ∷ []) before (all.0.iface, tt)) later all.1)
 
-  pub turn_safe : (own_macs : List Mac) (turn : Turn) (ifaces : List Iface) → AllHold ifaces → AreSafeJobs managed (jobs_along [] ifaces (map (iface_turned own_macs turn) ifaces))
+  pub turn_safe : (own_macs : List Mac) (turn : Turn) (ifaces : List Iface) → AllHold ifaces
+      → AreSafeJobs managed (jobs_along [] ifaces (map (iface_turned own_macs turn) ifaces))
   turn_safe own_macs turn ifaces all =
-      along_safe [] ifaces (map (iface_turned own_macs turn) ifaces) tt all (all_turned_have OfHolder Any4 Any6 holder_kept own_macs turn (any_good turn.bytes) ifaces all)
+      along_safe [] ifaces (map (iface_turned own_macs turn) ifaces) tt all
+      (all_turned_have OfHolder Any4 Any6 holder_kept own_macs turn (any_good turn.bytes) ifaces all)
 
   pub turned_hold : (own_macs : List Mac) (turn : Turn) (ifaces : List Iface) → AllHold ifaces
       → AllHold (map (λ (step : IfaceStep). step.iface) (map (iface_turned own_macs turn) ifaces))
   turned_hold own_macs turn ifaces all =
-      steps_have OfHolder (map (iface_turned own_macs turn) ifaces) (all_turned_have OfHolder Any4 Any6 holder_kept own_macs turn (any_good turn.bytes) ifaces all)
+      steps_have OfHolder (map (iface_turned own_macs turn) ifaces)
+      (all_turned_have OfHolder Any4 Any6 holder_kept own_macs turn (any_good turn.bytes) ifaces all)
 
   abbrev pub AllBegin : List Beginning → Type 0
   AllBegin beginnings = AllByRecursion (λ (b : Beginning). OfHolder (resting b)) beginnings
 
-  pub opening_safe : (up at salt : ℕ) (beginnings : List Beginning) → AllBegin beginnings → AreSafeJobs managed (jobs_along [] [] (map (opened up at salt) beginnings))
+  pub opening_safe : (up at salt : ℕ) (beginnings : List Beginning) → AllBegin beginnings
+      → AreSafeJobs managed (jobs_along [] [] (map (opened up at salt) beginnings))
   opening_safe up at salt beginnings all =
       along_safe [] [] (map (opened up at salt) beginnings) tt tt (all_opened_have OfHolder Any4 Any6 holder_kept up at salt beginnings all)
 

@@ -36,7 +36,8 @@ ConfiguredTextsAreSafe = (text : List ℕ) (conf : Configuration) → IsConfOf t
 -- ---- lives
 
 -- the life of the interfaces that the configuration of a text manages: `specs` are all interfaces
-pub record IsConfiguredLife (text : List ℕ) (managed : List Managed) (specs : List IfSpec) (opening : OpeningMet) (mets : List Met) : Type 0 where
+pub record IsConfiguredLife (text : List ℕ) (managed : List Managed) (specs : List IfSpec) (opening : OpeningMet)
+    (mets : List Met) : Type 0 where
   pub conf : Configuration
   pub reads : IsConfOf text (Ok conf)
   pub each : AllByRecursion FitsSpec specs
@@ -49,10 +50,13 @@ HasPlainVariables job = AllByRecursion IsPlainVariable job.vars
 
 -- Each variable of each job that such a life starts or drops is printable, whatever came in.
 abbrev pub VariablesArePrintable : Type 0
-VariablesArePrintable = (text : List ℕ) (managed : List Managed) (specs : List IfSpec) (opening : OpeningMet) (mets : List Met)
-    → IsConfiguredLife text managed specs opening mets → AllByRecursion HasPlainVariables (flat_map job_in (opening.calls ++ turns_calls opening.life mets))
+VariablesArePrintable =
+    (text : List ℕ) (managed : List Managed) (specs : List IfSpec) (opening : OpeningMet) (mets : List Met)
+    → IsConfiguredLife text managed specs opening mets
+    → AllByRecursion HasPlainVariables (flat_map job_in (opening.calls ++ turns_calls opening.life mets))
 
 -- Where the frames that came in are bytes, it is one in which the resolver is told lines.
 abbrev pub ConfiguredLivesAreLives : Type 0
-ConfiguredLivesAreLives = (text : List ℕ) (managed : List Managed) (specs : List IfSpec) (opening : OpeningMet) (mets : List Met)
+ConfiguredLivesAreLives =
+    (text : List ℕ) (managed : List Managed) (specs : List IfSpec) (opening : OpeningMet) (mets : List Met)
     → IsConfiguredLife text managed specs opening mets → AreOctets mets → IsLife managed specs opening mets

@@ -1,5 +1,5 @@
--- What the value of a variable is, and what it is made of. It stands as plain text in a shell, a file or a log, whatever
--- a server sent.
+-- What the value of a variable is, and what it is made of. It stands as plain text in a shell, a file or a log,
+-- whatever a server sent.
 use Rattle.std.specs.Prelude.{◌≡◌, ◌≢◌, ℕ, ◌<◌, ◌≤◌, Bool, ◌==◌, ◌||◌, IsTrue, List, [], ◌++◌, codes, decimal}
 use Rattle.std.specs.Char.{is_ascii_alphanumeric, is_ascii_digit}
 use Rattle.std.specs.Int.{is_in_range}

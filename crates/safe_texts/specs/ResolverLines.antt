@@ -31,7 +31,9 @@ pub record IsLife (managed : List Managed) (specs : List IfSpec) (opening : Open
 
 -- After an opening and any turns the resolver is to be told nothing, or such lines, whatever files and servers said.
 abbrev pub WantedLinesAreSafe : Type 0
-WantedLinesAreSafe = (managed : List Managed) (specs : List IfSpec) (opening : OpeningMet) (mets : List Met) → IsLife managed specs opening mets
+WantedLinesAreSafe =
+    (managed : List Managed) (specs : List IfSpec) (opening : OpeningMet) (mets : List Met)
+    → IsLife managed specs opening mets
     → IfSome (resolver_wanted (life_after opening.life mets).client.ifaces) HasResolverLines
 
 -- What is written aside, to take the place of the resolver's file.
@@ -45,5 +47,7 @@ IsLinesCall call = Unit {0}
 
 -- Each such text that a life writes is lines, whatever the devices answered.
 abbrev pub WrittenLinesAreSafe : Type 0
-WrittenLinesAreSafe = (managed : List Managed) (specs : List IfSpec) (opening : OpeningMet) (mets : List Met) → IsLife managed specs opening mets
+WrittenLinesAreSafe =
+    (managed : List Managed) (specs : List IfSpec) (opening : OpeningMet) (mets : List Met)
+    → IsLife managed specs opening mets
     → AllByRecursion IsLinesCall (opening.calls ++ turns_calls opening.life mets)

@@ -16,8 +16,8 @@ use Rattle.safe_texts.specs.SafeVariables.{AreSafe}
 
 -- ---- a job
 
--- It is of a managed interface, and runs the script that is configured there. What is made of its event is safe, and behind
--- that stands what is configured for its hooks, as it was configured.
+-- It is of a managed interface, and runs the script that is configured there. What is made of its event is safe, and
+-- behind that stands what is configured for its hooks, as it was configured.
 pub record IsSafeJob (managed : List Managed) (job : Job) : Type 0 where
   pub holder : Managed
   pub among : Contains managed holder
@@ -65,6 +65,7 @@ job_in (Dropped job) = job ∷ []
 
 -- Each job that a life starts or drops is safe, whatever the devices answered.
 abbrev pub LifeJobsAreSafe : Type 0
-LifeJobsAreSafe = (managed : List Managed) (specs : List IfSpec) (opening : OpeningMet) (mets : List Met) → AreManaged managed
+LifeJobsAreSafe =
+    (managed : List Managed) (specs : List IfSpec) (opening : OpeningMet) (mets : List Met) → AreManaged managed
     → IsOpening managed specs opening → AreTurns managed opening.life mets
     → AreSafeJobs managed (flat_map job_in (opening.calls ++ turns_calls opening.life mets))

@@ -55,7 +55,8 @@ HELD_FORMS =
 -- the variable of this name has a value of this form
 pub data IsNamed : (name : List ℕ) → Form → Type 0 where
   OfJob : (word : List ℕ) (form : Form) → Contains JOB_FORMS (word, form) → IsNamed word form
-  OfHeld : (stage : Stage) (word : List ℕ) (form : Form) → Contains HELD_FORMS (word, form) → IsNamed (prefix stage ++ word) form
+  OfHeld : (stage : Stage) (word : List ℕ) (form : Form) → Contains HELD_FORMS (word, form)
+      → IsNamed (prefix stage ++ word) form
 
 -- The name is one of these, and the value is made of the bytes of its form: it has no control character, and no byte
 -- past ASCII.
@@ -70,4 +71,5 @@ AreSafe variables = AllByRecursion IsSafe variables
 
 -- What is made of an event is so, whatever is held and whoever granted it.
 abbrev pub MadeVariablesAreSafe : Type 0
-MadeVariablesAreSafe = (situation : SituationContent) → FitsName situation.interface.name → AreSafe (made_variables situation)
+MadeVariablesAreSafe =
+    (situation : SituationContent) → FitsName situation.interface.name → AreSafe (made_variables situation)

@@ -1,4 +1,5 @@
-//! What hooks and the resolver are told is safe to read, whatever servers and files said: laws over all events, steps and lives.
+//! What hooks and the resolver are told is safe to read, whatever servers and files said: laws over all events, steps
+//! and lives.
 #![tactic(auto)]
 
 mod laws;

@@ -1,5 +1,5 @@
--- Which texts spell a row of the host: its words in order. An IPv6 address may have any spelling (RFC 4291, section 2.2),
--- all else is as printed.
+-- Which texts spell a row of the host: its words in order. An IPv6 address may have any spelling (RFC 4291, section
+-- 2.2), all else is as printed.
 use Rattle.std.specs.Prelude.{◌≡◌, ℕ, List, [], ◌++◌, codes, decimal}
 use Rattle.net_types.specs.declared.address.Ip6.{Ip6}
 use Rattle.net_types.specs.declared.address.Net.{Net}

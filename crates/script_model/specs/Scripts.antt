@@ -19,7 +19,8 @@ use Rattle.script_model.specs.Stops.{wakes_seen, EndsWhenOver}
 -- interfaces count from 1; names and hardware addresses are unlike
 abbrev pub CountsFrom : ℕ → List IfSpec → Type 0
 CountsFrom index [] = Unit {0}
-CountsFrom index (spec ∷ specs) = (spec.index.number ≡ index) × FitsName spec.name × FitsMac spec.mac × CountsFrom (index + 1) specs
+CountsFrom index (spec ∷ specs) =
+    (spec.index.number ≡ index) × FitsName spec.name × FitsMac spec.mac × CountsFrom (index + 1) specs
 
 abbrev pub Unlike : IfSpec → IfSpec → Type 0
 Unlike a b = (a.name ≡ b.name → ⊥) × (a.mac ≡ b.mac → ⊥)

@@ -25,4 +25,5 @@ time_after_stop = 5000
 
 -- No wake comes once the life is over: only the last one is so long after the stop.
 abbrev pub EndsWhenOver : List Wake → Type 0
-EndsWhenOver wakes = IfSome (stop_moment wakes) (λ stop. AllPairs (λ wake later. wake.at < stop + time_after_stop) wakes)
+EndsWhenOver wakes =
+    IfSome (stop_moment wakes) (λ stop. AllPairs (λ wake later. wake.at < stop + time_after_stop) wakes)

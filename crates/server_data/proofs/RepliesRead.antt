@@ -65,4 +65,5 @@ granted_most Nak m reply = omega arith
 
 pub reply_most : (reply : Reply) → length reply.chaddr.bytes ≡ 6 → length (reply_text reply) ≤ 262
 reply_most reply len =
-    subst (λ (n : List ℕ). length (reply_text (with_kind reply.kind n reply)) ≤ 262) (sym (six_cells reply.chaddr.bytes len)) (granted_most reply.kind reply.chaddr.bytes reply)
+    subst (λ (n : List ℕ). length (reply_text (with_kind reply.kind n reply)) ≤ 262) (sym (six_cells reply.chaddr.bytes len))
+    (granted_most reply.kind reply.chaddr.bytes reply)

@@ -34,12 +34,15 @@ granted_by Nak lease = []
 -- the options of a message, in their order
 abbrev pub reply_options : Reply → List Instance
 reply_options reply =
-    (MESSAGE_TYPE, kind_number reply.kind ∷ []) ∷ (SERVER_IDENTIFIER, ip4_octets reply.server) ∷ granted_by reply.kind reply.lease
+    (MESSAGE_TYPE, kind_number reply.kind ∷ []) ∷ (SERVER_IDENTIFIER, ip4_octets reply.server)
+    ∷ granted_by reply.kind reply.lease
 
--- op, htype, hlen, hops of 0, xid; secs, flags and ciaddr of 0; yiaddr; siaddr and giaddr of 0; chaddr; no sname, no file; the cookie
+-- op, htype, hlen, hops of 0, xid; secs, flags and ciaddr of 0; yiaddr; siaddr and giaddr of 0; chaddr; no sname, no
+-- file; the cookie
 abbrev pub reply_fields : Reply → List ℕ
 reply_fields reply =
-    (BOOT_REPLY ∷ ETHERNET ∷ MAC_LEN ∷ 0 ∷ []) ++ u32_octets reply.xid ++ replicate 8 0 ++ ip4_octets (given_by reply.kind reply.yiaddr)
+    (BOOT_REPLY ∷ ETHERNET ∷ MAC_LEN ∷ 0 ∷ []) ++ u32_octets reply.xid ++ replicate 8 0
+    ++ ip4_octets (given_by reply.kind reply.yiaddr)
     ++ replicate 8 0 ++ reply.chaddr.bytes ++ replicate 202 0 ++ MAGIC_COOKIE
 
 abbrev pub reply_text : Reply → List ℕ

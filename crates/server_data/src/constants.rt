@@ -5,7 +5,8 @@ ghost use Rattle.std.specs.Prelude.{◌≡◌, [], ◌∷◌};
 use crate::field::{BOOT_REPLY, ETHERNET, MAC_LEN, MAGIC_COOKIE, NETMASK};
 use crate::framing::{SERVER, SERVER_MAC};
 
-/// Law: a server's message is a BOOTREPLY over Ethernet with the cookie of RFC 2131, section 3, and its network has 24 bits.
+/// Law: a server's message is a BOOTREPLY over Ethernet with the cookie of RFC 2131, section 3, and its network has 24
+/// bits.
 pub fn fields_are_those_assigned()
     ensures boot_reply { BOOT_REPLY ≡ 2 }
     ensures ethernet { ETHERNET ≡ 1 }

@@ -19,8 +19,8 @@ pub const SERVER: Ip4 = Ip4 {
     number: 0x0a00_0001,
 };
 
-/// The frame of a server's message, from its hardware address to that of the client, and between the ports of DHCP from its
-/// address to everyone (RFC 2131, section 4.1). Only want of memory is an error.
+/// The frame of a server's message, from its hardware address to that of the client, and between the ports of DHCP from
+/// its address to everyone (RFC 2131, section 4.1). Only want of memory is an error.
 pub fn server_frame(alloc: Global, reply: &Reply) -> Result<Vec<u8>, NoMemory>
     ensures { IfOk result (λ frame. frame.items ≡ server_frame reply.now) }
 {

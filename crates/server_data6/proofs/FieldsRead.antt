@@ -43,7 +43,8 @@ looked_field code c (Some value) fields more later =
       | inr other ↦ rw other later
     ]
 
-looked : (code : ℕ) (fields : List Field) (more : List Instance) → first_of code (fields_options fields ++ more) ≡ first_or (look code fields) (first_of code more)
+looked : (code : ℕ) (fields : List Field) (more : List Instance)
+    → first_of code (fields_options fields ++ more) ≡ first_or (look code fields) (first_of code more)
 looked code [] more = refl
 looked code (field ∷ fields) more = looked_field code field.0 field.1 fields more (looked code fields more)
 
@@ -85,11 +86,13 @@ seconds_back (Some n) fits = ap (λ (k : ℕ). Some k) (from_be_bytes-to_be_byte
 abbrev NoIa : Field → Type 0
 NoIa field = (value : List ℕ) → ia_by (field.0, value) ≡ None
 
-past_field : (code : ℕ) (value : Option (List ℕ)) (more : List Instance) → NoIa (code, value) → filter_map ia_by (if_said code value ++ more) ≡ filter_map ia_by more
+past_field : (code : ℕ) (value : Option (List ℕ)) (more : List Instance) → NoIa (code, value)
+    → filter_map ia_by (if_said code value ++ more) ≡ filter_map ia_by more
 past_field code None more none = refl
 past_field code (Some value) more none = rw (none value) refl
 
-past_fields : (fields : List Field) (more : List Instance) → AllByRecursion NoIa fields → filter_map ia_by (fields_options fields ++ more) ≡ filter_map ia_by more
+past_fields : (fields : List Field) (more : List Instance) → AllByRecursion NoIa fields
+    → filter_map ia_by (fields_options fields ++ more) ≡ filter_map ia_by more
 past_fields [] more none = refl
 past_fields (field ∷ fields) more none =
     ap (filter_map ia_by) (append_assoc (if_said field.0 field.1) (fields_options fields) more)

@@ -25,7 +25,8 @@ pub status_back : (status : Option StatusText) → IfSome status FitsStatus → 
 status_back None fits = refl
 status_back (Some status) fits = from_be_bytes-to_be_bytes_2 status.number fits.number
 
-status_first : (status : Option StatusText) (more : List Instance) → first_of 13 more ≡ None → first_of 13 (status_option status ++ more) ≡ option_map status_text status
+status_first : (status : Option StatusText) (more : List Instance) → first_of 13 more ≡ None
+    → first_of 13 (status_option status ++ more) ≡ option_map status_text status
 status_first None more none = none
 status_first (Some status) more none = refl
 
@@ -65,7 +66,8 @@ items_back kind [] p = refl
 items_back kind (item ∷ items) p = λ i. cons_option (item_back kind item p.0 i) (items_back kind items p.1 i)
 
 -- a status isn't an item, and an item isn't a status
-past_status : (kind : IaKind) (status : Option StatusText) (more : List Instance) → filter_map (item_by kind) (status_option status ++ more) ≡ filter_map (item_by kind) more
+past_status : (kind : IaKind) (status : Option StatusText) (more : List Instance)
+    → filter_map (item_by kind) (status_option status ++ more) ≡ filter_map (item_by kind) more
 past_status kind None more = refl
 past_status Na (Some status) more = refl
 past_status Pd (Some status) more = refl

@@ -111,7 +111,8 @@ module _ (reply : Reply6) (fits : FitsReply6 reply) where
   pub message_read : message6_in (reply6_text reply) ≡ Some (reply6_content reply)
   unfolding message6_in
   message_read =
-      ap (λ (bad : Option Bad6). if_accepted bad (option_map (content_of (reply6_text reply) seen) (server_kind_by (type_of reply.kind)))) (not_refused reply fits)
+      ap (λ (bad : Option Bad6). if_accepted bad (option_map (content_of (reply6_text reply) seen) (server_kind_by (type_of reply.kind))))
+      (not_refused reply fits)
       ∙ ap (option_map (content_of (reply6_text reply) seen)) (kind_back reply.kind)
       ∙ ap (λ (c : Content6). Some c) content
 

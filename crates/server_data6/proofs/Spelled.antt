@@ -57,7 +57,8 @@ items_spelled kind (item ∷ items) p = (item_spelled kind item p.0, items_spell
 
 pub held_spelled : (ia : GivenIa) → FitsIa ia → AreSpelled (ia_options ia)
 held_spelled ia fits =
-    both_spelled (status_option ia.status) (map (item_option ia.kind) ia.items) (status_spelled ia.status fits.status) (items_spelled ia.kind ia.items fits.items)
+    both_spelled (status_option ia.status) (map (item_option ia.kind) ia.items) (status_spelled ia.status fits.status)
+    (items_spelled ia.kind ia.items fits.items)
 
 holder_spelled : (kind : IaKind) (value : List ℕ) (held : List Instance) → length value < 2 ^ 16 → 12 ≤ length value
     → drop 12 value ≡ options_text held → AreSpelled held → IsSpelled (ia_code kind, value)
@@ -125,7 +126,8 @@ reply6_spelled reply fits =
     let client = plain_spelled 1 (omega arith) (λ value. refl) refl reply.client fits.client in
     let server = plain_spelled 2 (omega arith) (λ value. refl) refl reply.server fits.server in
     let status = status_field reply.status fits.status in
-    let preferred = plain_spelled 7 (omega arith) (λ value. refl) refl (option_map (λ (value : ℕ). value ∷ []) reply.preference) (preference_fits reply.preference) in
+    let preferred =
+    plain_spelled 7 (omega arith) (λ value. refl) refl (option_map (λ (value : ℕ). value ∷ []) reply.preference) (preference_fits reply.preference) in
     let rapid = plain_spelled 14 (omega arith) (λ value. refl) refl (rapid_value reply.rapid) (rapid_fits reply.rapid) in
     let servers = plain_spelled 23 (omega arith) (λ value. refl) refl (servers_value reply.dns) (servers_fit reply.dns fits.dns) in
     let searched = plain_spelled 24 (omega arith) (λ value. refl) refl reply.search fits.search in

@@ -41,9 +41,11 @@ item_code Pd = ia_prefix
 
 abbrev pub item_value : IaKind → GivenItem → List ℕ
 item_value Na item =
-    ip6_octets item.net.ip ++ u32_octets item.preferred ++ u32_octets item.valid ++ options_text (status_option item.status)
+    ip6_octets item.net.ip ++ u32_octets item.preferred ++ u32_octets item.valid
+    ++ options_text (status_option item.status)
 item_value Pd item =
-    u32_octets item.preferred ++ u32_octets item.valid ++ (item.net.len ∷ ip6_octets item.net.ip) ++ options_text (status_option item.status)
+    u32_octets item.preferred ++ u32_octets item.valid ++ (item.net.len ∷ ip6_octets item.net.ip)
+    ++ options_text (status_option item.status)
 
 abbrev pub item_option : IaKind → GivenItem → Instance
 item_option kind item = (item_code kind, item_value kind item)

@@ -14,5 +14,6 @@ ghost use Rattle.server_data6.specs.ReadBack.{FitsReply6, FitServers, reply6_con
 pub fn replies6_are_read_back()
     ensures message { (reply : Reply6) → FitsReply6 reply → message6_in (reply6_text reply) ≡ Some (reply6_content reply) }
     ensures ias { (reply : Reply6) → FitsReply6 reply → ias_in (options_area (reply6_text reply)) ≡ map ia_given reply.ias }
-    ensures servers { (first : Ip6) (others : List Ip6) → FitServers (first ∷ others) → dns6_in (servers_text (first ∷ others)) ≡ Some (first ∷ others) }
+    ensures servers { (first : Ip6) (others : List Ip6) → FitServers (first ∷ others)
+        → dns6_in (servers_text (first ∷ others)) ≡ Some (first ∷ others) }
 {}

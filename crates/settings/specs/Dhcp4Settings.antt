@@ -21,14 +21,16 @@ pub record Dhcp4Settings : Type 0 where
   pub vendor : List ℕ
   -- option 61
   pub identifier : IdentifierContent
-  -- codes asked for beside those that always are, codes neither asked for nor taken, and codes without which nothing is taken
+  -- codes asked for beside those that always are, codes neither asked for nor taken, and codes without which nothing is
+  -- taken
   pub asked : List ℕ
   pub refused : List ℕ
   pub required : List ℕ
   -- networks of servers that aren't listened to
   pub blacklist : List Net4
 
-abbrev pub dhcp4_settings : (host vendor : List ℕ) → Identifier → (asked refused required : List ℕ) → List Net4 → Dhcp4Settings
+abbrev pub dhcp4_settings : (host vendor : List ℕ) → Identifier → (asked refused required : List ℕ) → List Net4
+    → Dhcp4Settings
 dhcp4_settings host vendor identifier asked refused required blacklist = record {
   host = host;
   vendor = vendor;

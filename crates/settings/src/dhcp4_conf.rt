@@ -54,7 +54,8 @@ impl Model for Dhcp4Conf {
 
     ghost Value = { Dhcp4Settings };
 
-    ghost view = { λ conf. dhcp4_settings conf.host.items conf.vendor.items conf.identifier conf.asked.items conf.refused.items conf.required.items conf.blacklist.items };
+    ghost view = { λ conf. dhcp4_settings conf.host.items conf.vendor.items conf.identifier conf.asked.items
+        conf.refused.items conf.required.items conf.blacklist.items };
 }
 
 impl Dhcp4Conf {

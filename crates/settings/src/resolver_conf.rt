@@ -6,8 +6,8 @@ use net_types::Ip4;
 use std::alloc::{AllocError, Global};
 use std::marker::Model;
 
-/// What `static` lines say of name servers and of names to search in. Each goes before what a DHCPv4 lease says of it, where it
-/// isn't empty.
+/// What `static` lines say of name servers and of names to search in. Each goes before what a DHCPv4 lease says of it,
+/// where it isn't empty.
 #[derive(Drop)]
 pub struct ResolverConf {
     /// `static domain_name_servers`.
@@ -25,12 +25,18 @@ impl Model for ResolverConf {
 
     ghost Value = { ResolverSettings };
 
-    ghost view = { λ conf. record { servers = conf.servers.items; search = map string_bytes conf.search.items; domain = string_bytes conf.domain } };
+    ghost view = { λ conf.
+        record {
+          servers = conf.servers.items;
+          search = map string_bytes conf.search.items;
+          domain = string_bytes conf.domain;
+        } };
 }
 
 /// Appends a copy of each of these names.
 fn add_names(into: &mut Vec<String>, names: &[String]) -> Result<(), AllocError>
-    ensures { OnOk result (map string_bytes into.new.items ≡ map string_bytes into.old.items ++ map string_bytes names.now) }
+    ensures { OnOk result
+        (map string_bytes into.new.items ≡ map string_bytes into.old.items ++ map string_bytes names.now) }
 {
     let alloc = *into.allocator();
     for name in names {

@@ -54,15 +54,18 @@ are_turns = are_made managed coming (running_opened managed specs devices)
 
 -- what the turns show is what those of eth0 alone do
 pub turns_show : shown_of opens turns ≡ shown opening three_turns
-unfolding frame_in arp_in heard4_in heard6_in packet6_in datagram_in udp6_in is_checked6 udp6_text udp6_frame_text message6_in malformed_in instances_in front_of outranks resolver_wanted turn_asks opening_asks carrier_turned tick_turned hears_turned name_text
+unfolding frame_in arp_in heard4_in heard6_in packet6_in datagram_in udp6_in is_checked6 udp6_text udp6_frame_text message6_in malformed_in instances_in
+    front_of outranks resolver_wanted turn_asks opening_asks carrier_turned tick_turned hears_turned name_text
 turns_show = refl
 
 pub is_wanted : has_row (rows_of (life_after opens.life turns).client) (Addr downstream shared) ≡ true
-unfolding frame_in arp_in heard4_in heard6_in packet6_in datagram_in udp6_in is_checked6 udp6_text udp6_frame_text message6_in malformed_in instances_in front_of outranks resolver_wanted turn_asks opening_asks carrier_turned tick_turned hears_turned name_text
+unfolding frame_in arp_in heard4_in heard6_in packet6_in datagram_in udp6_in is_checked6 udp6_text udp6_frame_text message6_in malformed_in instances_in
+    front_of outranks resolver_wanted turn_asks opening_asks carrier_turned tick_turned hears_turned name_text
 is_wanted = refl
 
 pub is_held : has_row (life_run managed specs devices coming).world.host.told.rows (Addr downstream shared) ≡ true
-unfolding frame_in arp_in heard4_in heard6_in packet6_in datagram_in udp6_in is_checked6 udp6_text udp6_frame_text message6_in malformed_in instances_in front_of outranks resolver_wanted turn_asks opening_asks carrier_turned tick_turned hears_turned name_text
+unfolding frame_in arp_in heard4_in heard6_in packet6_in datagram_in udp6_in is_checked6 udp6_text udp6_frame_text message6_in malformed_in instances_in
+    front_of outranks resolver_wanted turn_asks opening_asks carrier_turned tick_turned hears_turned name_text
 is_held = refl
 
 -- ---- the interfaces
@@ -190,4 +193,5 @@ by_either (inr share) = share
 
 pub share_based : HasShareBasis managed specs opens turns downstream shared
 share_based =
-    by_either (have_basis LeaseRelation leases_based items_have_basis managed specs opens turns life all_fit shared_with_others octets downstream shared is_wanted)
+    by_either
+    (have_basis LeaseRelation leases_based items_have_basis managed specs opens turns life all_fit shared_with_others octets downstream shared is_wanted)

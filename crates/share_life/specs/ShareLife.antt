@@ -54,7 +54,17 @@ coming =
 -- asked
 abbrev pub devices : World
 devices = record {
-  link = record { told = record { begin = record { at = 1000; salt = 0; up = 3 }; coming = coming; waits = 0; sends = 0; calls = [] }; failing = [] };
+  link =
+      record {
+        told = record {
+          begin = record { at = 1000; salt = 0; up = 3 };
+          coming = coming;
+          waits = 0;
+          sends = 0;
+          calls = [];
+        };
+        failing = [];
+      };
   host = record { told = record { rows = []; calls = [] }; failing = [] };
   store = record { told = store_holding []; failing = never_fails };
   hooks = record { told = record { polls = []; calls = [] }; failing = [] };

@@ -55,11 +55,13 @@ find_has : (q : ℕ) (d : ℕ) (timers : List Timer) → find nat_cmp q (map ent
 find_has q d [] e = cc
 find_has q d (t ∷ ts) e = by (find_has q d ts) (eq_by_cmp nat_cmp q t.key) refl e
   where
-    by : (find nat_cmp q (map entry_of ts) ≡ Some d → has_key timer_cmp ts (record { due = d; key = q }) ≡ true) → (b : Bool) → eq_by_cmp nat_cmp q t.key ≡ b → cond b (Some t.due) (find nat_cmp q (map entry_of ts)) ≡ Some d → has_key timer_cmp (t ∷ ts) (record { due = d; key = q }) ≡ true
+    by : (find nat_cmp q (map entry_of ts) ≡ Some d → has_key timer_cmp ts (record { due = d; key = q }) ≡ true) → (b : Bool) → eq_by_cmp nat_cmp q t.key ≡ b
+        → cond b (Some t.due) (find nat_cmp q (map entry_of ts)) ≡ Some d → has_key timer_cmp (t ∷ ts) (record { due = d; key = q }) ≡ true
     by later true same is =
         let dues : t.due ≡ d = cc in
         let keys : t.key ≡ q = sym (same_key q t.key same) in
-        subst (λ (s : Timer). has_key timer_cmp (t ∷ ts) s ≡ true) (λ i. record { due = dues i; key = keys i }) (ap (λ b. b || has_key timer_cmp ts t) (itself t))
+        subst (λ (s : Timer). has_key timer_cmp (t ∷ ts) s ≡ true) (λ i. record { due = dues i; key = keys i })
+        (ap (λ b. b || has_key timer_cmp ts t) (itself t))
     by later false other is = ap (λ b. eq_by_cmp timer_cmp (record { due = d; key = q }) t || b) (later is) ∙ or_true _
 
 has_find : (s : Timer) (timers : List Timer) → has_key timer_cmp timers s ≡ true → is_some (find nat_cmp s.key (map entry_of timers)) ≡ true
@@ -69,11 +71,13 @@ has_find s (t ∷ ts) h = by (has_find s ts) (eq_by_cmp nat_cmp s.key t.key) ref
     key_of : eq_by_cmp timer_cmp s t ≡ true → eq_by_cmp nat_cmp s.key t.key ≡ true
     key_of e = subst (λ (u : Timer). eq_by_cmp nat_cmp s.key u.key ≡ true) (same_timer s t e) (ap is_eq (tied_itself nat_cmp_total s.key))
 
-    later : (b : Bool) → (b ≡ true → eq_by_cmp nat_cmp s.key t.key ≡ true) → eq_by_cmp nat_cmp s.key t.key ≡ false → (b || has_key timer_cmp ts s) ≡ true → has_key timer_cmp ts s ≡ true
+    later : (b : Bool) → (b ≡ true → eq_by_cmp nat_cmp s.key t.key ≡ true) → eq_by_cmp nat_cmp s.key t.key ≡ false → (b || has_key timer_cmp ts s) ≡ true
+        → has_key timer_cmp ts s ≡ true
     later true k n h = absurd (false≢true (sym n ∙ k refl))
     later false k n h = h
 
-    by : (has_key timer_cmp ts s ≡ true → is_some (find nat_cmp s.key (map entry_of ts)) ≡ true) → (b : Bool) → eq_by_cmp nat_cmp s.key t.key ≡ b → is_some (cond b (Some t.due) (find nat_cmp s.key (map entry_of ts))) ≡ true
+    by : (has_key timer_cmp ts s ≡ true → is_some (find nat_cmp s.key (map entry_of ts)) ≡ true) → (b : Bool) → eq_by_cmp nat_cmp s.key t.key ≡ b
+        → is_some (cond b (Some t.due) (find nat_cmp s.key (map entry_of ts))) ≡ true
     by rest true same = refl
     by rest false other = rest (later (eq_by_cmp timer_cmp s t) key_of other h)
 
@@ -90,12 +94,14 @@ get_mirrored timers table m q =
     by (Some d) at f a = sym (is_moment_of at d (ap (λ o. is_moment o d) (sym a) ∙ sym (m.mirrored (record { due = d; key = q })) ∙ find_has q d timers f))
     by None None f a = refl
     by None (Some d) f a =
-        let there : has_key timer_cmp timers (record { due = d; key = q }) ≡ true = m.mirrored (record { due = d; key = q }) ∙ ap (λ o. is_moment o d) a ∙ eq-eqb d d refl in
+        let there : has_key timer_cmp timers (record { due = d; key = q }) ≡ true =
+        m.mirrored (record { due = d; key = q }) ∙ ap (λ o. is_moment o d) a ∙ eq-eqb d d refl in
         absurd (false≢true (sym (ap is_some f) ∙ has_find (record { due = d; key = q }) timers there))
 
 -- ---- a place of the table that changes
 
-pub table_set : (table : List (Option ℕ)) (key q : ℕ) (v : Option ℕ) → key < length table → moment_at (set table key v) q ≡ cond (eq_by_cmp nat_cmp q key) v (moment_at table q)
+pub table_set : (table : List (Option ℕ)) (key q : ℕ) (v : Option ℕ) → key < length table
+    → moment_at (set table key v) q ≡ cond (eq_by_cmp nat_cmp q key) v (moment_at table q)
 table_set table key q v within = by (eq_by_cmp nat_cmp q key) refl
   where
     by : (b : Bool) → eq_by_cmp nat_cmp q key ≡ b → moment_at (set table key v) q ≡ cond b v (moment_at table q)
@@ -114,19 +120,29 @@ module _ (timers after : List Timer) (table : List (Option ℕ)) (key : ℕ) (d 
   had = m.mirrored gone ∙ ap (λ o. is_moment o d) is ∙ eq-eqb d d refl
 
   pub mirrors_cleared : Mirrors after (set table key None)
-  mirrors_cleared = record { ordered = sorted; mirrored = λ s. has s ∙ by s (eq_by_cmp nat_cmp s.key key) refl ∙ ap (λ o. is_moment o s.due) (sym (table_set table key s.key None within)) }
+  mirrors_cleared =
+      record {
+        ordered = sorted;
+        mirrored = λ s. has s ∙ by s (eq_by_cmp nat_cmp s.key key) refl ∙ ap (λ o. is_moment o s.due) (sym (table_set table key s.key None within));
+      }
     where
       apart : (s : Timer) → eq_by_cmp nat_cmp s.key key ≡ false → eq_by_cmp timer_cmp s gone ≡ false
-      apart s n = ⊎_elim (λ e. absurd (false≢true (sym n ∙ ap (λ (t : Timer). eq_by_cmp nat_cmp t.key key) (same_timer s gone e) ∙ ap is_eq (tied_itself nat_cmp_total key)))) (λ f. f) (cases_Bool (eq_by_cmp timer_cmp s gone))
+      apart s n =
+          ⊎_elim
+          (λ e. absurd
+          (false≢true (sym n ∙ ap (λ (t : Timer). eq_by_cmp nat_cmp t.key key) (same_timer s gone e) ∙ ap is_eq (tied_itself nat_cmp_total key))))
+          (λ f. f) (cases_Bool (eq_by_cmp timer_cmp s gone))
 
       none : (s : Timer) → s.key ≡ key → (b : Bool) → eq_by_cmp timer_cmp s gone ≡ b → (not b && has_key timer_cmp timers s) ≡ false
       none s k true e = refl
       none s k false e = ⊎_elim
-          (λ h. let dues : s.due ≡ d = let found : Some d ≡ Some s.due = sym is ∙ ap (λ (x : ℕ). moment_at table x) (sym k) ∙ is_moment_of _ s.due (sym (m.mirrored s) ∙ h) in cc in
+          (λ h. let dues : s.due ≡ d = let found : Some d ≡ Some s.due = sym is ∙ ap (λ (x : ℕ). moment_at table x) (sym k)
+          ∙ is_moment_of _ s.due (sym (m.mirrored s) ∙ h) in cc in
           absurd (false≢true (sym e ∙ subst (λ (t : Timer). eq_by_cmp timer_cmp s t ≡ true) (λ i. record { due = dues i; key = k i }) (itself s))))
           (λ f. f) (cases_Bool (has_key timer_cmp timers s))
 
-      by : (s : Timer) (b : Bool) → eq_by_cmp nat_cmp s.key key ≡ b → (not (eq_by_cmp timer_cmp s gone) && has_key timer_cmp timers s) ≡ is_moment (cond b None (moment_at table s.key)) s.due
+      by : (s : Timer) (b : Bool) → eq_by_cmp nat_cmp s.key key ≡ b
+          → (not (eq_by_cmp timer_cmp s gone) && has_key timer_cmp timers s) ≡ is_moment (cond b None (moment_at table s.key)) s.due
       by s true same = none s (same_key s.key key same) (eq_by_cmp timer_cmp s gone) refl
       by s false other = ap (λ b. not b && has_key timer_cmp timers s) (apart s other) ∙ m.mirrored s
 
@@ -137,7 +153,8 @@ module _ (timers after : List Timer) (table : List (Option ℕ)) (key : ℕ) (d 
 
 -- what isn't set isn't taken away
 pub moments_same : (moments : Moments) (key : ℕ) → get moments key ≡ None → moments ≡ remove moments key
-moments_same moments key none = same_map nat_cmp_total nat_cmp-IsAntisymmetric _ _ (λ q. by q (eq_by_cmp nat_cmp q key) refl ∙ sym (get-remove nat_cmp_total moments key q))
+moments_same moments key none =
+    same_map nat_cmp_total nat_cmp-IsAntisymmetric _ _ (λ q. by q (eq_by_cmp nat_cmp q key) refl ∙ sym (get-remove nat_cmp_total moments key q))
   where
     by : (q : ℕ) (b : Bool) → eq_by_cmp nat_cmp q key ≡ b → get moments q ≡ cond b None (get moments q)
     by q true same = ap (get moments) (same_key q key same) ∙ none
@@ -155,10 +172,18 @@ module _ (timers after : List Timer) (table : List (Option ℕ)) (key : ℕ) (d 
   lacked = m.mirrored come ∙ ap (λ o. is_moment o d) is
 
   pub mirrors_set : Mirrors after (set table key (Some d))
-  mirrors_set = record { ordered = sorted; mirrored = λ s. has s ∙ by s (eq_by_cmp nat_cmp s.key key) refl ∙ ap (λ o. is_moment o s.due) (sym (table_set table key s.key (Some d) within)) }
+  mirrors_set =
+      record {
+        ordered = sorted;
+        mirrored = λ s. has s ∙ by s (eq_by_cmp nat_cmp s.key key) refl ∙ ap (λ o. is_moment o s.due) (sym (table_set table key s.key (Some d) within));
+      }
     where
       apart : (s : Timer) → eq_by_cmp nat_cmp s.key key ≡ false → eq_by_cmp timer_cmp s come ≡ false
-      apart s n = ⊎_elim (λ e. absurd (false≢true (sym n ∙ ap (λ (t : Timer). eq_by_cmp nat_cmp t.key key) (same_timer s come e) ∙ ap is_eq (tied_itself nat_cmp_total key)))) (λ f. f) (cases_Bool (eq_by_cmp timer_cmp s come))
+      apart s n =
+          ⊎_elim
+          (λ e. absurd
+          (false≢true (sym n ∙ ap (λ (t : Timer). eq_by_cmp nat_cmp t.key key) (same_timer s come e) ∙ ap is_eq (tied_itself nat_cmp_total key))))
+          (λ f. f) (cases_Bool (eq_by_cmp timer_cmp s come))
 
       one : (s : Timer) → s.key ≡ key → (b : Bool) → eq_by_cmp timer_cmp s come ≡ b → b ≡ eqb d s.due
       one s k true e = sym (eq-eqb d s.due (ap (λ (t : Timer). t.due) (sym (same_timer s come e))))
@@ -171,7 +196,8 @@ module _ (timers after : List Timer) (table : List (Option ℕ)) (key : ℕ) (d 
       or_false true = refl
       or_false false = refl
 
-      by : (s : Timer) (b : Bool) → eq_by_cmp nat_cmp s.key key ≡ b → (eq_by_cmp timer_cmp s come || has_key timer_cmp timers s) ≡ is_moment (cond b (Some d) (moment_at table s.key)) s.due
+      by : (s : Timer) (b : Bool) → eq_by_cmp nat_cmp s.key key ≡ b
+          → (eq_by_cmp timer_cmp s come || has_key timer_cmp timers s) ≡ is_moment (cond b (Some d) (moment_at table s.key)) s.due
       by s true same =
           let k : s.key ≡ key = same_key s.key key same in
           ap (λ b. eq_by_cmp timer_cmp s come || b) (m.mirrored s ∙ ap (λ o. is_moment o s.due) (ap (λ (x : ℕ). moment_at table x) k ∙ is))
@@ -194,10 +220,12 @@ one_more a b c e is = omega arith
 abbrev set_or_not : Option ℕ → ℕ
 set_or_not o = cond (is_some o) 1 0
 
-pub count_cleared : (table : List (Option ℕ)) (i d : ℕ) → i < length table → moment_at table i ≡ Some d → count_by is_some (set table i None) + 1 ≡ count_by is_some table
+pub count_cleared : (table : List (Option ℕ)) (i d : ℕ) → i < length table → moment_at table i ≡ Some d
+    → count_by is_some (set table i None) + 1 ≡ count_by is_some table
 count_cleared table i d within is = one_less _ _ _ (sum_by-set set_or_not table i None None within) (ap set_or_not is)
 
-pub count_set : (table : List (Option ℕ)) (i d : ℕ) → i < length table → moment_at table i ≡ None → count_by is_some (set table i (Some d)) ≡ count_by is_some table + 1
+pub count_set : (table : List (Option ℕ)) (i d : ℕ) → i < length table → moment_at table i ≡ None
+    → count_by is_some (set table i (Some d)) ≡ count_by is_some table + 1
 count_set table i d within is = one_more _ _ _ (sum_by-set set_or_not table i (Some d) None within) (ap set_or_not is)
 
 pub count_below : (table : List (Option ℕ)) (i : ℕ) → i < length table → moment_at table i ≡ None → count_by is_some table + 1 ≤ length table

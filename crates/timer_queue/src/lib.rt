@@ -1,4 +1,5 @@
-//! When each key is due, of those below a number. The queue tells the earliest moment at once, and changes that of a key by two searches.
+//! When each key is due, of those below a number. The queue tells the earliest moment at once, and changes that of a
+//! key by two searches.
 #![tactic(auto)]
 
 mod queue;

@@ -1,5 +1,5 @@
--- Which texts spell a line after the head: an IPv6 address may have any spelling (RFC 4291, section 2.2), all else is as
--- printed.
+-- Which texts spell a line after the head: an IPv6 address may have any spelling (RFC 4291, section 2.2), all else is
+-- as printed.
 use Rattle.std.specs.Prelude.{◌≡◌, ℕ, Bool, List, ◌++◌, codes, Some}
 use Rattle.net_types.specs.declared.address.Net.{Net}
 use Rattle.net_types.specs.declared.interface.IfIndex.{IfIndex}

@@ -1,5 +1,5 @@
-//! The lines of a transcript after its head, read one by one: rows, networks and addresses in any spelling, all else as it
-//! is printed.
+//! The lines of a transcript after its head, read one by one: rows, networks and addresses in any spelling, all else as
+//! it is printed.
 #![tactic(auto)]
 
 mod calls;

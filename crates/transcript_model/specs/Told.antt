@@ -6,8 +6,8 @@ use Rattle.world.specs.declared.wakes.Event.{Event}
 use Rattle.conf_text.specs.Configurations.{Configuration, NoticeContent}
 use Rattle.script_model.specs.Lines.{Line, Head, Conf, Notice, Interface, Life, Start, Turn, EndOfLife}
 
--- a turn: its moment in milliseconds since 1970, its random word, what came with the bytes of a frame, and what was asked
--- and answered
+-- a turn: its moment in milliseconds since 1970, its random word, what came with the bytes of a frame, and what was
+-- asked and answered
 pub record TurnTold : Type 0 where
   pub at : ℕ
   pub salt : ℕ

@@ -47,7 +47,8 @@ pub written_none : (up : ℕ) (old : List ℕ) → WrittenTo up old old false 1
 unfolding up_text listed
 written_none up old = record { spelled = refl; front = take-length old; none = λ _. refl }
 
-pub written_up : (up : ℕ) (old now new : List ℕ) (some some' : Bool) (i : ℕ) → i < 65 → is_up up i ≡ true → new ≡ now ++ next_text some i → some' ≡ true → WrittenTo up old now some i → WrittenTo up old new some' (i + 1)
+pub written_up : (up : ℕ) (old now new : List ℕ) (some some' : Bool) (i : ℕ) → i < 65 → is_up up i ≡ true → new ≡ now ++ next_text some i → some' ≡ true
+    → WrittenTo up old now some i → WrittenTo up old new some' (i + 1)
 written_up up old now new some some' i h e is is_some w = rw is_some (record {
   spelled =
       w.spelled ∙ ap (λ text. now ++ text) (ap (rest_text some) (listed_up up i h e) ∙ rest_next some i (listed up (i + 1)))
@@ -57,7 +58,8 @@ written_up up old now new some some' i h e is is_some w = rw is_some (record {
   none = λ f. (cc);
 })
 
-pub written_down : (up : ℕ) (old now : List ℕ) (some : Bool) (i : ℕ) → i < 65 → is_up up i ≡ false → WrittenTo up old now some i → WrittenTo up old now some (i + 1)
+pub written_down : (up : ℕ) (old now : List ℕ) (some : Bool) (i : ℕ) → i < 65 → is_up up i ≡ false → WrittenTo up old now some i
+    → WrittenTo up old now some (i + 1)
 written_down up old now some i h e w = record {
   spelled = rw (sym (listed_down up i h e)) w.spelled;
   front = w.front;

@@ -53,7 +53,8 @@ bit_none q p even = let e : 2 * (q / 2) ≡ q = omega arith in even_product p (q
 half : (up k : ℕ) → up / 2 ^ (k + 1) ≡ up / 2 ^ k / 2
 half up k = ap (λ z. up / z) (pow_more 2 k) ∙ sym (div-div-eq-div-mul up (2 ^ k) 2)
 
-bits_step : (up k : ℕ) (rest : List ℕ) (b : Bool) → eqb (up / 2 ^ k % 2) 1 ≡ b → bits_of rest ≡ 2 ^ (k + 1) * (up / 2 ^ (k + 1)) → bits_of (cond b ((k + 1) ∷ rest) rest) ≡ 2 ^ k * (up / 2 ^ k)
+bits_step : (up k : ℕ) (rest : List ℕ) (b : Bool) → eqb (up / 2 ^ k % 2) 1 ≡ b → bits_of rest ≡ 2 ^ (k + 1) * (up / 2 ^ (k + 1))
+    → bits_of (cond b ((k + 1) ∷ rest) rest) ≡ 2 ^ k * (up / 2 ^ k)
 unfolding bits_of
 bits_step up k rest true e ih =
     let before : k + 1 - 1 ≡ k = omega arith in

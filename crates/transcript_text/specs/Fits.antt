@@ -1,4 +1,5 @@
--- The lines that a transcript can have: numbers of the daemon's types, names as they are allowed, rows that a host can hold.
+-- The lines that a transcript can have: numbers of the daemon's types, names as they are allowed, rows that a host can
+-- hold.
 use Rattle.std.specs.Prelude.{◌≡◌, ℕ, ◌<◌, ◌^◌, List, [], length, Option, Some, None, IsTrue}
 use Rattle.std.specs.List.{AllByRecursion}
 use Rattle.net_types.specs.AddressText.{FitsIp6, FitsMac, FitsNet}

@@ -1,4 +1,5 @@
--- The fields that lines of a transcript have of their own: their texts, the values that have one, and how they are read.
+-- The fields that lines of a transcript have of their own: their texts, the values that have one, and how they are
+-- read.
 use Rattle.std.specs.Prelude.{ℕ, ◌+◌, ◌-◌, ◌^◌, nat_lt, Bool, true, false, not, ◌&&◌, List, [], ◌∷◌, ◌++◌, codes, flat_map, Option, Some, None, option_map, IsTrue, if◌then◌else◌, ◌==◌}
 use Rattle.std.specs.List.{AllByRecursion, list_all}
 use Rattle.net_types.specs.declared.address.Net.{Net}

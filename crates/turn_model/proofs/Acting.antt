@@ -32,7 +32,8 @@ pub record Acts (managed : List Managed) (known : Option (List HostRow)) (client
   pub failing_is : ran.world.host.failing ≡ host.failing
 
 -- So where others are asked before it that leave the host.
-then_acts : {A : Type 0} (managed : List Managed) (known : Option (List HostRow)) (client : Client) (host : Told HostTold (List ℕ)) (first : Ran A) (ran : Ran Life)
+then_acts : {A : Type 0} (managed : List Managed) (known : Option (List HostRow)) (client : Client) (host : Told HostTold (List ℕ)) (first : Ran A)
+    (ran : Ran Life)
     → first.world.host ≡ host → Acts managed known client first.world.host ran → Acts managed known client host (ran_both first ran)
 then_acts managed known client host first ran same it =
     subst (λ (h : Told HostTold (List ℕ)). Acts managed known client h (ran_both first ran)) same
@@ -77,7 +78,8 @@ module _ (managed : List Managed) (outlook : Outlook) (step : ClientStep) (momen
       ∙ ap (λ (ran : Ran Life). ran_both (hosted world) ran)
       (run_after (hooking moment step.jobs outlook.hooks) (λ hooks. to_keep (offered world).result (hosted world).result hooks) (hosted world).world
       ∙ ap (λ (ran : Ran Life). ran_both (hooked world) ran)
-      (run_after (keeping step.client.ifaces outlook.files) (λ files. Done (life_with (offered world).result (hosted world).result (hooked world).result files)) (hooked world).world)))
+      (run_after (keeping step.client.ifaces outlook.files) (λ files. Done (life_with (offered world).result (hosted world).result (hooked world).result files))
+      (hooked world).world)))
 
   pub acts : (world : World) → Acts managed outlook.known step.client world.host (run (acting managed outlook step moment stop) world)
   acts world =
@@ -89,7 +91,10 @@ module _ (managed : List Managed) (outlook : Outlook) (step : ClientStep) (momen
         client_is = ap (λ (ran : Ran Life). ran.result.client) (ran_is world);
         known_is = ap (λ (ran : Ran Life). ran.result.known) (ran_is world)
             ∙ host_known managed (rows_of step.client) outlook.known (offered world).world
-            ∙ ap (λ (host : Told HostTold (List ℕ)). known_after managed outlook.known (rows_of step.client) (told_host managed host.failing outlook.known (rows_of step.client) host.told).answer) same;
+            ∙ ap
+            (λ (host : Told HostTold (List ℕ)). known_after managed outlook.known (rows_of step.client)
+            (told_host managed host.failing outlook.known (rows_of step.client) host.told).answer)
+            same;
         told_is = ap (λ (ran : Ran Life). ran.world.host.told) (ran_is world)
             ∙ ap (λ (host : Told HostTold (List ℕ)). host.told) kept_host
             ∙ ap (λ (w : World). w.host.told) (host_left managed (rows_of step.client) outlook.known (offered world).world)
@@ -133,8 +138,10 @@ module _ (managed : List Managed) (life : Life) (wake : Wake) (bytes : List ℕ)
       let client : Client = (step_of life wake bytes).client in
       let polled : Ran Supervision = ran_polling world in
       subst (λ (ran : Ran Life). Acts managed life.known client world.host ran) (sym (turn_ran world))
-      (then_acts managed life.known client world.host polled (ran_turn_step world) (polling_leaves (λ w. w.host) (λ told w. refl) (turn_moment life wake) life.hooks world)
-      (acts managed (outlook_with life polled.result) (step_of life wake bytes) (turn_moment life wake) (stop_after life.stop wake.event (turn_moment life wake)) polled.world))
+      (then_acts managed life.known client world.host polled (ran_turn_step world)
+      (polling_leaves (λ w. w.host) (λ told w. refl) (turn_moment life wake) life.hooks world)
+      (acts managed (outlook_with life polled.result) (step_of life wake bytes) (turn_moment life wake)
+      (stop_after life.stop wake.event (turn_moment life wake)) polled.world))
 
 module _ (managed : List Managed) (specs : List IfSpec) (begin : Begin) where
   abbrev step_asks : FilesLoaded → Asks Life
@@ -149,13 +156,15 @@ module _ (managed : List Managed) (specs : List IfSpec) (begin : Begin) where
   abbrev pub ran_step : World → Ran Life
   ran_step world = run (step_asks (ran_loading world).result) (ran_loading world).world
 
-  pub opening_ran : (world : World) → run (opening_asks managed specs begin) world ≡ ran_both (ran_clearing world) (ran_both (ran_loading world) (ran_step world))
+  pub opening_ran : (world : World)
+      → run (opening_asks managed specs begin) world ≡ ran_both (ran_clearing world) (ran_both (ran_loading world) (ran_step world))
   unfolding opening_asks
   opening_ran world =
       run_after clearing (λ _. after (loading_files managed) (λ files. step_asks files)) world
       ∙ ap (λ (ran : Ran Life). ran_both (ran_clearing world) ran) (run_after (loading_files managed) (λ files. step_asks files) (ran_clearing world).world)
 
-  pub opening_acts : (world : World) → Acts managed None (opening_step managed (ran_loading world).result specs begin).client world.host (run (opening_asks managed specs begin) world)
+  pub opening_acts : (world : World)
+      → Acts managed None (opening_step managed (ran_loading world).result specs begin).client world.host (run (opening_asks managed specs begin) world)
   opening_acts world =
       let cleared : Ran (Unit {0}) = ran_clearing world in
       let read : Ran FilesLoaded = ran_loading world in

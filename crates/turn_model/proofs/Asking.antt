@@ -101,7 +101,8 @@ module _ (IsSo : Ask → Type 0) where
         let asks6 : Asks (Option Reading) = reading_if (runs_dhcp6 managed.conf) (lease6_file managed) in
         only_after (reading_if (runs_dhcp4 managed.conf) (lease4_file managed)) (λ lease4. after asks6 (λ lease6. Done (loaded managed lease4 lease6)))
         (reading_only (runs_dhcp4 managed.conf) (lease4_file managed))
-        (λ lease4. only_after asks6 (λ lease6. Done (loaded managed lease4 lease6)) (reading_only (runs_dhcp6 managed.conf) (lease6_file managed)) (λ lease6. tt))
+        (λ lease4. only_after asks6 (λ lease6. Done (loaded managed lease4 lease6)) (reading_only (runs_dhcp6 managed.conf) (lease6_file managed))
+        (λ lease6. tt))
 
     loading_only : (managed : List Managed) → AsksOnly IsSo (loading managed)
     loading_only [] = tt
@@ -135,7 +136,8 @@ module _ (IsSo : Ask → Type 0) where
     one_only : (wanted : Option (List ℕ)) (file : KeptFile) → AsksOnly IsSo (keeping_one wanted file)
     one_only wanted file =
         let known_then : Bool → Asks KeptFile = λ done. Done (record file { known = known_after wanted done }) in
-        gated (λ (asks : Asks KeptFile). AsksOnly IsSo asks) (is_settled file.keeps file.known wanted) (Done file) (after (bringing file.name wanted) known_then) tt
+        gated (λ (asks : Asks KeptFile). AsksOnly IsSo asks) (is_settled file.keeps file.known wanted) (Done file)
+        (after (bringing file.name wanted) known_then) tt
         (only_after (bringing file.name wanted) known_then (bringing_only file.name wanted) (λ done. tt))
 
     pub keeping_only : (ifaces : List Iface) (files : List KeptFile) → AsksOnly IsSo (keeping ifaces files)
@@ -163,7 +165,8 @@ module _ (IsSo : Ask → Type 0) where
 
     job_only : (job : Job) (s : Supervision) → AsksOnly IsSo (putting_one job s)
     job_only job s =
-        gated (λ (asks : Asks Supervision). AsksOnly IsSo asks) (is_full s) (Then (Drop (numbered job s)) (λ _. Done (after_put job s))) (Done (after_put job s))
+        gated (λ (asks : Asks Supervision). AsksOnly IsSo asks) (is_full s) (Then (Drop (numbered job s)) (λ _. Done (after_put job s)))
+        (Done (after_put job s))
         (hooks.drop (numbered job s), λ _. tt) tt
 
     putting_only : (jobs : List Job) (s : Supervision) → AsksOnly IsSo (putting jobs s)

@@ -22,7 +22,8 @@ files_in world = world.store.told.files
 
 pub done_parts : (a b : List Call) → all_done (a ++ b) ≡ true → (all_done a ≡ true) × (all_done b ≡ true)
 done_parts a b e =
-    and_parts (all_done a) (all_done b) (sym (list_all-append was_done (flat_map store_call a) (flat_map store_call b)) ∙ ap (list_all was_done) (sym (flat_map-append store_call a b)) ∙ e)
+    and_parts (all_done a) (all_done b)
+    (sym (list_all-append was_done (flat_map store_call a) (flat_map store_call b)) ∙ ap (list_all was_done) (sym (flat_map-append store_call a b)) ∙ e)
 
 -- ---- a list of files
 
@@ -104,7 +105,8 @@ module _ (name : List ℕ) where
   pub removes : (world : World) → InNameOrder file_name (files_in world) → Brings None (files_in world) (run (bringing name None) world)
   removes world order = by (answer_to (RemoveFile name) world)
     where
-      by : (done : Bool) → Brings None (files_in world) (asked_first (made (RemoveFile name) done) (run (if_done done settle) (world_with (RemoveFile name) done world)))
+      by : (done : Bool)
+          → Brings None (files_in world) (asked_first (made (RemoveFile name) done) (run (if_done done settle) (world_with (RemoveFile name) done world)))
       by true =
           let after : World = world_with (RemoveFile name) true world in
           then_brings None (files_in world) after (made (RemoveFile name) true) (run settle after) (dropped (files_in world))
@@ -126,17 +128,23 @@ module _ (name : List ℕ) where
     renames : (world : World) → HasAside world → Brings (Some bytes) (files_in world) (run rename world)
     renames world here = by (answer_to (RenameAside name) world)
       where
-        by : (done : Bool) → Brings (Some bytes) (files_in world) (asked_first (made (RenameAside name) done) (run (if_done done settle) (world_with (RenameAside name) done world)))
+        by : (done : Bool)
+            → Brings (Some bytes) (files_in world)
+            (asked_first (made (RenameAside name) done) (run (if_done done settle) (world_with (RenameAside name) done world)))
         by true =
             let after : World = world_with (RenameAside name) true world in
-            then_brings (Some bytes) (files_in world) after (made (RenameAside name) true) (run settle after) (renamed (file_at (aside_of name) (files_in world)) (files_in world))
-            (settles (Some bytes) after (ap (λ (found : Option (List ℕ)). file_at name (rename_file name found (files_in world))) here ∙ come bytes (files_in world)))
+            then_brings (Some bytes) (files_in world) after (made (RenameAside name) true) (run settle after)
+            (renamed (file_at (aside_of name) (files_in world)) (files_in world))
+            (settles (Some bytes) after
+            (ap (λ (found : Option (List ℕ)). file_at name (rename_file name found (files_in world))) here ∙ come bytes (files_in world)))
         by false = record { changed = unchanged (files_in world); reads = λ e. absurd cc; told = λ e. e }
 
     syncs : (world : World) → HasAside world → Brings (Some bytes) (files_in world) (run sync world)
     syncs world here = by (answer_to (SyncAside name) world)
       where
-        by : (done : Bool) → Brings (Some bytes) (files_in world) (asked_first (made (SyncAside name) done) (run (if_done done rename) (world_with (SyncAside name) done world)))
+        by : (done : Bool)
+            → Brings (Some bytes) (files_in world)
+            (asked_first (made (SyncAside name) done) (run (if_done done rename) (world_with (SyncAside name) done world)))
         by true =
             let after : World = world_with (SyncAside name) true world in
             then_brings (Some bytes) (files_in world) after (made (SyncAside name) true) (run rename after) (unchanged (files_in world)) (renames after here)
@@ -145,13 +153,17 @@ module _ (name : List ℕ) where
     pub writes : (world : World) → Brings (Some bytes) (files_in world) (run (bringing name (Some bytes)) world)
     writes world = by (answer_to (WriteAside name bytes) world)
       where
-        by : (done : Bool) → Brings (Some bytes) (files_in world) (asked_first (made (WriteAside name bytes) done) (run (if_done done sync) (world_with (WriteAside name bytes) done world)))
+        by : (done : Bool)
+            → Brings (Some bytes) (files_in world)
+            (asked_first (made (WriteAside name bytes) done) (run (if_done done sync) (world_with (WriteAside name bytes) done world)))
         by true =
             let after : World = world_with (WriteAside name bytes) true world in
             then_brings (Some bytes) (files_in world) after (made (WriteAside name bytes) true) (run sync after) (put_aside bytes (files_in world))
-            (syncs after (put_found file_name has None (aside_of name) (record { name = aside_of name; bytes = bytes }) (name_itself (aside_of name)) (files_in world)))
+            (syncs after
+            (put_found file_name has None (aside_of name) (record { name = aside_of name; bytes = bytes }) (name_itself (aside_of name)) (files_in world)))
         by false = record { changed = unchanged (files_in world); reads = λ e. absurd cc; told = λ e. e }
 
-  pub brings : (wanted : Option (List ℕ)) (world : World) → InNameOrder file_name (files_in world) → Brings wanted (files_in world) (run (bringing name wanted) world)
+  pub brings : (wanted : Option (List ℕ)) (world : World) → InNameOrder file_name (files_in world)
+      → Brings wanted (files_in world) (run (bringing name wanted) world)
   brings (Some bytes) world order = writes bytes world
   brings None world order = removes world order

@@ -109,29 +109,37 @@ both6 : (a b : Managed) → AreUnlike a b → Apart (filed6 a) (filed6 b)
 both6 a b unlike = apart 54 54 (filed6 a) (filed6 b) (ends6 a) (ends6 b) (names_differ (codes ".lease6") a b unlike)
 
 four_six : (a b : Managed) → Apart (filed4 a) (filed6 b)
-four_six a b = apart 52 54 (filed4 a) (filed6 b) (ends4 a) (ends6 b) (ends_differ 52 54 (lease4_file a) (lease6_file b) (ends4 a) (ends6 b) (λ e. absurd (omega (arith, e))))
+four_six a b =
+    apart 52 54 (filed4 a) (filed6 b) (ends4 a) (ends6 b)
+    (ends_differ 52 54 (lease4_file a) (lease6_file b) (ends4 a) (ends6 b) (λ e. absurd (omega (arith, e))))
 
 six_four : (a b : Managed) → Apart (filed6 a) (filed4 b)
-six_four a b = apart 54 52 (filed6 a) (filed4 b) (ends6 a) (ends4 b) (ends_differ 54 52 (lease6_file a) (lease4_file b) (ends6 a) (ends4 b) (λ e. absurd (omega (arith, e))))
+six_four a b =
+    apart 54 52 (filed6 a) (filed4 b) (ends6 a) (ends4 b)
+    (ends_differ 54 52 (lease6_file a) (lease4_file b) (ends6 a) (ends4 b) (λ e. absurd (omega (arith, e))))
 
 duid_four : (duid : List ℕ) (m : Managed) → Apart (filed (Duid duid) duid_file) (filed4 m)
 duid_four duid m =
-    apart 100 52 (filed (Duid duid) duid_file) (filed4 m) duid_ends (ends4 m) (ends_differ 100 52 duid_file (lease4_file m) duid_ends (ends4 m) (λ e. absurd (omega (arith, e))))
+    apart 100 52 (filed (Duid duid) duid_file) (filed4 m) duid_ends (ends4 m)
+    (ends_differ 100 52 duid_file (lease4_file m) duid_ends (ends4 m) (λ e. absurd (omega (arith, e))))
 
 duid_six : (duid : List ℕ) (m : Managed) → Apart (filed (Duid duid) duid_file) (filed6 m)
 duid_six duid m =
-    apart 100 54 (filed (Duid duid) duid_file) (filed6 m) duid_ends (ends6 m) (ends_differ 100 54 duid_file (lease6_file m) duid_ends (ends6 m) (λ e. absurd (omega (arith, e))))
+    apart 100 54 (filed (Duid duid) duid_file) (filed6 m) duid_ends (ends6 m)
+    (ends_differ 100 54 duid_file (lease6_file m) duid_ends (ends6 m) (λ e. absurd (omega (arith, e))))
 
 abbrev filed_resolver : Filed
 filed_resolver = filed Resolver resolver_file
 
 resolver_four : (m : Managed) → Apart filed_resolver (filed4 m)
 resolver_four m =
-    apart 102 52 filed_resolver (filed4 m) resolver_ends (ends4 m) (ends_differ 102 52 resolver_file (lease4_file m) resolver_ends (ends4 m) (λ e. absurd (omega (arith, e))))
+    apart 102 52 filed_resolver (filed4 m) resolver_ends (ends4 m)
+    (ends_differ 102 52 resolver_file (lease4_file m) resolver_ends (ends4 m) (λ e. absurd (omega (arith, e))))
 
 resolver_six : (m : Managed) → Apart filed_resolver (filed6 m)
 resolver_six m =
-    apart 102 54 filed_resolver (filed6 m) resolver_ends (ends6 m) (ends_differ 102 54 resolver_file (lease6_file m) resolver_ends (ends6 m) (λ e. absurd (omega (arith, e))))
+    apart 102 54 filed_resolver (filed6 m) resolver_ends (ends6 m)
+    (ends_differ 102 54 resolver_file (lease6_file m) resolver_ends (ends6 m) (λ e. absurd (omega (arith, e))))
 
 duid_resolver : (duid : List ℕ) → Apart (filed (Duid duid) duid_file) filed_resolver
 duid_resolver duid =
@@ -157,7 +165,8 @@ module _ (one : Filed) where
       with_those m (runs_dhcp4 m.conf) (runs_dhcp6 m.conf) (flat_map filed_for others) (four m all.0) (six m all.0) (from_all Other four six others all.1)
 
 -- those of an interface are apart, and apart from the rest
-module _ (a : Managed) (rest : List Filed) (four : AllByRecursion (Apart (filed4 a)) rest) (six : AllByRecursion (Apart (filed6 a)) rest) (are : AreApart rest) where
+module _ (a : Managed) (rest : List Filed) (four : AllByRecursion (Apart (filed4 a)) rest) (six : AllByRecursion (Apart (filed6 a)) rest)
+    (are : AreApart rest) where
   with_own : (runs4 runs6 : Bool)
       → AreApart ((filed_if runs4 (Lease4 a.spec.index.number) (lease4_file a) ++ filed_if runs6 (Lease6 a.spec.index.number) (lease6_file a)) ++ rest)
   with_own true true = ((four_six a a, four), (six, are))
@@ -165,7 +174,8 @@ module _ (a : Managed) (rest : List Filed) (four : AllByRecursion (Apart (filed4
   with_own false true = (six, are)
   with_own false false = are
 
-all_unlike : (a : Managed) (others : List Managed) → AllByRecursion (λ name. bytes_eq (name_text a.spec.name) name ≡ false) (map (λ (m : Managed). name_text m.spec.name) others)
+all_unlike : (a : Managed) (others : List Managed)
+    → AllByRecursion (λ name. bytes_eq (name_text a.spec.name) name ≡ false) (map (λ (m : Managed). name_text m.spec.name) others)
     → AllByRecursion (AreUnlike a) others
 all_unlike a [] h = tt
 all_unlike a (b ∷ others) h = (h.0, all_unlike a others h.1)

@@ -106,7 +106,8 @@ module _ (managed : List Managed) (apart : AreNamedApart managed) where
 
   -- ---- a turn
 
-  turn_keeps : (life : Running) (given : Given) → Stands managed life.life.files (files_in life.world) → Keeps managed (ran_turn managed life.life life.world given)
+  turn_keeps : (life : Running) (given : Given) → Stands managed life.life.files (files_in life.world)
+      → Keeps managed (ran_turn managed life.life life.world given)
   turn_keeps life given before =
       let wake : Wake = told_wake given in
       let world : World = woken (until life.life) wake (told_bytes given) life.world in
@@ -152,7 +153,8 @@ module _ (managed : List Managed) (apart : AreNamedApart managed) where
 
     step_keeps : Keeps managed (ran_step managed specs begin world)
     step_keeps =
-        acting_keeps (outlook_from managed loaded_all.result) (opening_step managed loaded_all.result specs begin) (moment_of begin.at) None loaded_all.world read_stands
+        acting_keeps (outlook_from managed loaded_all.result) (opening_step managed loaded_all.result specs begin)
+        (moment_of begin.at) None loaded_all.world read_stands
 
     opening_keeps : Keeps managed (ran_opening managed specs world)
     opening_keeps =

@@ -60,4 +60,5 @@ module _ (managed : List Managed) where
 pub files_left_in_order : LeavesFilesInOrder
 files_left_in_order managed specs world order =
     let opened : Ran Life = ran_opening managed specs world in
-    turns_in_order managed opened.world.link.told.coming opened.result opened.world (ran_in_order (opening_asks managed specs world.link.told.begin) world order)
+    turns_in_order managed opened.world.link.told.coming opened.result opened.world
+    (ran_in_order (opening_asks managed specs world.link.told.begin) world order)

@@ -95,7 +95,8 @@ host_alike = record {
 
 store_alike : StoreAsks IsAlike
 store_alike = record {
-  asides = λ w v same. record { answer = ap (λ (x : World). answer_to ListAsides x) same; world = λ a. ap (λ (x : World). plain (world_with ListAsides a x)) same };
+  asides =
+      λ w v same. record { answer = ap (λ (x : World). answer_to ListAsides x) same; world = λ a. ap (λ (x : World). plain (world_with ListAsides a x)) same };
   read = λ name w v same. record {
     answer = ap (λ (x : World). answer_to (Read name) x) same;
     world = λ a. ap (λ (x : World). plain (world_with (Read name) a x)) same;
@@ -120,7 +121,8 @@ store_alike = record {
 }
 
 -- one call more
-call_alike : {A : Type 0} (call : Call) (one other : Ran A) → RanAlike (λ (a b : A). a ≡ b) one other → RanAlike (λ (a b : A). a ≡ b) (asked_first call one) (asked_first call other)
+call_alike : {A : Type 0} (call : Call) (one other : Ran A) → RanAlike (λ (a b : A). a ≡ b) one other
+    → RanAlike (λ (a b : A). a ≡ b) (asked_first call one) (asked_first call other)
 call_alike call one other it = record {
   calls = ap (λ (calls : List Call). if is_of_others call then call ∷ calls else calls) it.calls;
   result = it.result;
@@ -136,7 +138,9 @@ itself_alike {A} (Then ask next) only w v same =
     let one : Ran A = run (next a) (world_with ask a w) in
     let here : RanAlike (λ (a b : A). a ≡ b) one (run (next a) (world_with ask a v)) =
     itself_alike (next a) (only.1 a) (world_with ask a w) (world_with ask a v) (it.world a) in
-    subst (λ (b : AnswerTo ask). RanAlike (λ (a b : A). a ≡ b) (asked_first (made ask a) one) (asked_first (made ask b) (run (next b) (world_with ask b v)))) it.answer
+    subst
+    (λ (b : AnswerTo ask). RanAlike (λ (a b : A). a ≡ b) (asked_first (made ask a) one) (asked_first (made ask b) (run (next b) (world_with ask b v))))
+    it.answer
     (call_alike (made ask a) one (run (next a) (world_with ask a v)) here)
 
 -- others are asked, and then what is alike by each answer
@@ -176,7 +180,8 @@ run_unseen (Then ask next) only w =
     }
 
 -- whatever hooks are asked first, and what they answer
-hooks_first : {A B C D : Type 0} (Same : C → D → Type 0) (one : Asks A) (other : Asks B) (f : A → Asks C) (g : B → Asks D) → AsksOnly Unseen one → AsksOnly Unseen other
+hooks_first : {A B C D : Type 0} (Same : C → D → Type 0) (one : Asks A) (other : Asks B) (f : A → Asks C) (g : B → Asks D) → AsksOnly Unseen one
+    → AsksOnly Unseen other
     → ((a : A) (b : B) → Alike Same (f a) (g b)) → Alike Same (after one f) (after other g)
 hooks_first {A} {B} Same one other f g only_one only_other later =
     alike_after (λ (a : A) (b : B). Unit {0}) Same one other f g
@@ -209,7 +214,8 @@ module _ (managed : List Managed) where
       (hosting_only IsAlike host_alike managed (rows_of step.client) known)
       (λ rows. hooks_first SameLife (hooking moment step.jobs one) (hooking moment step.jobs other) (keep unsent rows) (keep unsent rows)
       (hooking_only Unseen hooks_unseen moment step.jobs one) (hooking_only Unseen hooks_unseen moment step.jobs other)
-      (λ a b. others_first SameLife (keeping step.client.ifaces files) (λ kept. Done (life_with unsent rows a kept)) (λ kept. Done (life_with unsent rows b kept))
+      (λ a b. others_first SameLife (keeping step.client.ifaces files) (λ kept. Done (life_with unsent rows a kept))
+      (λ kept. Done (life_with unsent rows b kept))
       (keeping_only IsAlike store_alike step.client.ifaces files)
       (λ kept w v same. record { calls = refl; result = refl; world = same }))))
 
@@ -225,10 +231,12 @@ module _ (managed : List Managed) where
       let step : ClientStep = step_of life wake bytes in
       let stop : Option ℕ = stop_after life.stop wake.event moment in
       let act : Supervision → Asks Life = λ hooks. acting managed (outlook_with life hooks) step moment stop in
-      hooks_first SameLife (polling moment one) (polling moment other) act act (polling_only Unseen hooks_unseen moment one) (polling_only Unseen hooks_unseen moment other)
+      hooks_first SameLife (polling moment one) (polling moment other) act act (polling_only Unseen hooks_unseen moment one)
+      (polling_only Unseen hooks_unseen moment other)
       (λ a b. acting_alike r.known r.files a b step moment stop)
 
-  turns_of_alike : (one other : Life) (wake : Wake) (bytes : List ℕ) → SameLife one other → Alike SameLife (turn_asks managed one wake bytes) (turn_asks managed other wake bytes)
+  turns_of_alike : (one other : Life) (wake : Wake) (bytes : List ℕ) → SameLife one other
+      → Alike SameLife (turn_asks managed one wake bytes) (turn_asks managed other wake bytes)
   turns_of_alike one other wake bytes e =
       subst (λ (r : Remainder). Alike SameLife (turn_asks managed one wake bytes) (turn_asks managed (life_from r other.hooks) wake bytes)) e
       (turn_alike (remainder_of one) one.hooks other.hooks wake bytes)
@@ -236,7 +244,8 @@ module _ (managed : List Managed) where
   opening_alike : (specs : List IfSpec) (begin : Begin) → Alike SameLife (opening_asks managed specs begin) (opening_asks managed specs begin)
   unfolding opening_asks
   opening_alike specs begin =
-      let act : FilesLoaded → Asks Life = λ files. acting managed (outlook_from managed files) (opening_step managed files specs begin) (moment_of begin.at) None in
+      let act : FilesLoaded → Asks Life =
+      λ files. acting managed (outlook_from managed files) (opening_step managed files specs begin) (moment_of begin.at) None in
       let load : Unit {0} → Asks Life = λ _. after (loading_files managed) act in
       others_first SameLife clearing load load (clearing_only IsAlike store_alike)
       (λ _. others_first SameLife (loading_files managed) act act (files_only IsAlike store_alike managed)
@@ -249,7 +258,8 @@ module _ (managed : List Managed) where
     turns : map turn_seen one ≡ map turn_seen other
     left : plain last ≡ plain other_last
 
-  over_alike : (a b : Bool) (one other : List Met) (begun other_begun left other_left : World) → a ≡ b → plain begun ≡ plain other_begun → TurnsAlike one other left other_left
+  over_alike : (a b : Bool) (one other : List Met) (begun other_begun left other_left : World) → a ≡ b → plain begun ≡ plain other_begun
+      → TurnsAlike one other left other_left
       → TurnsAlike (if a then [] else one) (if b then [] else other) (if a then begun else left) (if b then other_begun else other_left)
   over_alike true true one other begun other_begun left other_left e begins it = record { turns = refl; left = begins }
   over_alike true false one other begun other_begun left other_left e begins it = absurd (false≢true (sym e))
@@ -290,7 +300,8 @@ hooks_apart managed specs world hooks =
     let it : RanAlike SameLife one other = opening_alike managed specs world.link.told.begin world changed refl in
     let coming : one.world.link.told.coming ≡ other.world.link.told.coming = ap (λ (w : World). w.link.told.coming) it.world in
     let lives = subst
-    (λ (given : List Given). TurnsAlike managed (told_turns managed one.result one.world one.world.link.told.coming) (told_turns managed other.result other.world given)
+    (λ (given : List Given). TurnsAlike managed (told_turns managed one.result one.world one.world.link.told.coming)
+    (told_turns managed other.result other.world given)
     (told_after managed one.result one.world one.world.link.told.coming) (told_after managed other.result other.world given)) coming
     (turns_alike managed one.world.link.told.coming one.result other.result one.world other.world it.result it.world) in
     record {

@@ -44,7 +44,8 @@ record One (wanted : Option (List ℕ)) (file : KeptFile) (world : World) (ran :
   known : KnownTruly ran.result.known (file_at file.name (files_in ran.world))
   kept : all_done ran.calls ≡ true → IsWanted file.keeps wanted ran.result.known (file_at file.name (files_in ran.world))
 
-module _ (wanted : Option (List ℕ)) (file : KeptFile) (world : World) (order : InNameOrder file_name (files_in world)) (truly : KnownTruly file.known (file_at file.name (files_in world))) where
+module _ (wanted : Option (List ℕ)) (file : KeptFile) (world : World) (order : InNameOrder file_name (files_in world))
+    (truly : KnownTruly file.known (file_at file.name (files_in world))) where
   abbrev brought : Ran Bool
   brought = run (bringing file.name wanted) world
 
@@ -62,7 +63,8 @@ module _ (wanted : Option (List ℕ)) (file : KeptFile) (world : World) (order :
     kept = λ e. inl (it.reads (it.told (subst (λ (calls : List Call). all_done calls ≡ true) (append-nil brought.calls) e)));
   }
 
-  one_by : (b : Bool) → is_settled file.keeps file.known wanted ≡ b → One wanted file world (run (if b then Done file else after (bringing file.name wanted) known_then) world)
+  one_by : (b : Bool) → is_settled file.keeps file.known wanted ≡ b
+      → One wanted file world (run (if b then Done file else after (bringing file.name wanted) known_then) world)
   one_by true e = record {
     filed = refl;
     changed = unchanged file.name (files_in world);
@@ -105,7 +107,8 @@ pub record Kept (ifaces : List Iface) (files : List KeptFile) (before : List Sto
   pub kept : all_done ran.calls ≡ true → AllByRecursion (IsKept ifaces (files_in ran.world)) ran.result
 
 module _ (ifaces : List Iface) where
-  first_clear : (first : Filed) (others : List Filed) → AllByRecursion (Apart first) others → AllByRecursion (λ (filed : Filed). Clear first.name filed.name) others
+  first_clear : (first : Filed) (others : List Filed) → AllByRecursion (Apart first) others
+      → AllByRecursion (λ (filed : Filed). Clear first.name filed.name) others
   first_clear first [] h = tt
   first_clear first (other ∷ others) h = (h.0.one, first_clear first others h.1)
 
@@ -136,7 +139,8 @@ module _ (ifaces : List Iface) where
 
     pub both_kept : Kept ifaces files (files_in first.world) rest → Kept ifaces (file ∷ files) (files_in world) (run (keeping ifaces (file ∷ files)) world)
     both_kept later =
-        let stays : file_at file.name (files_in rest.world) ≡ file_at file.name (files_in first.world) = later.others file.name (first_clear (filed_as file) (all_filed files) apart.0) in
+        let stays : file_at file.name (files_in rest.world) ≡ file_at file.name (files_in first.world) =
+        later.others file.name (first_clear (filed_as file) (all_filed files) apart.0) in
         let reads : file_at first.result.name (files_in rest.world) ≡ file_at file.name (files_in first.world) =
         ap (λ (filed : Filed). file_at filed.name (files_in rest.world)) here.filed ∙ stays in
         subst (Kept ifaces (file ∷ files) (files_in world)) (sym ran_is) (record {
@@ -159,4 +163,5 @@ module _ (ifaces : List Iface) where
   are_kept [] world apart order known = record { filed = refl; order = order; others = λ n clear. refl; known = tt; kept = λ e. tt }
   are_kept (file ∷ files) world apart order known =
       both_kept file files world apart order known
-      (are_kept files (run (keeping_one (wanted_in ifaces file.keeps) file) world).world apart.1 (order_then file files world apart order known) (known_then_on file files world apart order known))
+      (are_kept files (run (keeping_one (wanted_in ifaces file.keeps) file) world).world apart.1 (order_then file files world apart order known)
+      (known_then_on file files world apart order known))

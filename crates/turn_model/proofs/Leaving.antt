@@ -46,7 +46,8 @@ module _ {P : Type 0} (part : World → P) (but_link : (told : LinkTold) (world 
 host_asked : HostAsks (LeavesIt (λ w. w.store))
 host_asked = record { list = λ rows world. refl; change = λ change done world. refl }
 
-pub hosting_leaves_store : (managed : List Managed) (wanted : List HostRow) (known : Option (List HostRow)) → Leaves (λ w. w.store) (hosting managed wanted known)
+pub hosting_leaves_store : (managed : List Managed) (wanted : List HostRow) (known : Option (List HostRow))
+    → Leaves (λ w. w.store) (hosting managed wanted known)
 hosting_leaves_store managed wanted known =
     only_leave (λ w. w.store) (hosting managed wanted known) (hosting_only (LeavesIt (λ w. w.store)) host_asked managed wanted known)
 

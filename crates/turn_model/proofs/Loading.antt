@@ -37,8 +37,10 @@ record MadeOf {A B C : Type 0} (first : Asks A) (then_that : Asks B) (make : A �
 made_of : {A B C : Type 0} (first : Asks A) (then_that : Asks B) (make : A → B → C) (calls : List Call) (result : C)
     → Makes (after first (λ a. after then_that (λ b. Done (make a b)))) calls result → MadeOf first then_that make result
 made_of {A} {B} {C} first then_that make calls result makes =
-    let one : MakesBoth first (λ a. after then_that (λ b. Done (make a b))) calls result = makes_both first (λ a. after then_that (λ b. Done (make a b))) calls result makes in
-    let two : MakesBoth then_that (λ b. Done (make one.between b)) one.later result = makes_both then_that (λ b. Done (make one.between b)) one.later result one.makes_later in
+    let one : MakesBoth first (λ a. after then_that (λ b. Done (make a b))) calls result =
+    makes_both first (λ a. after then_that (λ b. Done (make a b))) calls result makes in
+    let two : MakesBoth then_that (λ b. Done (make one.between b)) one.later result =
+    makes_both then_that (λ b. Done (make one.between b)) one.later result one.makes_later in
     record {
       a = one.between;
       b = two.between;
@@ -59,9 +61,11 @@ one_is_loaded m calls one makes =
 all_are_loaded : (managed : List Managed) (calls : List Call) (all : List Loaded) → Makes (loading managed) calls all → map managed_of all ≡ managed
 all_are_loaded [] calls all makes = ap (map managed_of) makes.result_is
 all_are_loaded (m ∷ managed) calls all makes =
-    let made : MadeOf (loading_one m) (loading managed) (λ one more. one ∷ more) all = made_of (loading_one m) (loading managed) (λ one more. one ∷ more) calls all makes in
+    let made : MadeOf (loading_one m) (loading managed) (λ one more. one ∷ more) all =
+    made_of (loading_one m) (loading managed) (λ one more. one ∷ more) calls all makes in
     ap (map managed_of) made.is
-    ∙ ap₂ (λ (n : Managed) (more : List Managed). n ∷ more) (one_is_loaded m made.calls made.a made.makes) (all_are_loaded managed made.later made.b made.makes_later)
+    ∙ ap₂ (λ (n : Managed) (more : List Managed). n ∷ more) (one_is_loaded m made.calls made.a made.makes)
+    (all_are_loaded managed made.later made.b made.makes_later)
 
 pub files_are_loaded : (managed : List Managed) (calls : List Call) (files : FilesLoaded) → Makes (loading_files managed) calls files
     → map managed_of files.ifaces ≡ managed
@@ -85,7 +89,8 @@ beginnings_managed duid (one ∷ all) = ap (λ (more : List Managed). one.manage
 own_fits : (spec : IfSpec) (lease : LeaseContent) → HasText lease → IfSome (own_lease spec lease) HasText
 own_fits spec lease fits = gated (λ (k : Option LeaseContent). IfSome k HasText) (is_own spec lease.name lease.origin) (Some lease) None fits tt
 
-spelled_fits : (spec : IfSpec) (text : List ℕ) (found : Option LeaseContent) → lease_spelled text ≡ found → IfSome (option_and_then (own_lease spec) found) HasText
+spelled_fits : (spec : IfSpec) (text : List ℕ) (found : Option LeaseContent) → lease_spelled text ≡ found
+    → IfSome (option_and_then (own_lease spec) found) HasText
 spelled_fits spec text None e = tt
 spelled_fits spec text (Some lease) e = own_fits spec lease ((is_reading text lease).sound e).spells.1
 
@@ -97,7 +102,8 @@ kept_fits spec Unread = tt
 own_fits6 : (spec : IfSpec) (lease : Lease6Content) → HasText6 lease → IfSome (own_lease6 spec lease) HasText6
 own_fits6 spec lease fits = gated (λ (k : Option Lease6Content). IfSome k HasText6) (is_own spec lease.name lease.origin) (Some lease) None fits tt
 
-spelled_fits6 : (spec : IfSpec) (text : List ℕ) (found : Option Lease6Content) → lease6_spelled text ≡ found → IfSome (option_and_then (own_lease6 spec) found) HasText6
+spelled_fits6 : (spec : IfSpec) (text : List ℕ) (found : Option Lease6Content) → lease6_spelled text ≡ found
+    → IfSome (option_and_then (own_lease6 spec) found) HasText6
 spelled_fits6 spec text None e = tt
 spelled_fits6 spec text (Some lease) e = own_fits6 spec lease ((is_reading6 text lease).sound e).spells.1
 

@@ -25,14 +25,16 @@ use Rattle.turn_model.proofs.Keeping.{all_filed, AreKnown}
 
 -- ---- clearing
 
-removing_order : (names : List (List ℕ)) (world : World) → InNameOrder file_name (files_in world) → InNameOrder file_name (files_in (run (removing names) world).world)
+removing_order : (names : List (List ℕ)) (world : World) → InNameOrder file_name (files_in world)
+    → InNameOrder file_name (files_in (run (removing names) world).world)
 removing_order [] world order = order
 removing_order (name ∷ names) world order =
     removing_order names (world_with (RemoveFile name) (answer_to (RemoveFile name) world) world)
     (gated (InNameOrder file_name) (answer_to (RemoveFile name) world) (drop_file name (files_in world)) (files_in world)
     (drop_in_order file_name name (files_in world) order) order)
 
-listed_order : (names : Option (List (List ℕ))) (world : World) → InNameOrder file_name (files_in world) → InNameOrder file_name (files_in (run (clearing_listed names) world).world)
+listed_order : (names : Option (List (List ℕ))) (world : World) → InNameOrder file_name (files_in world)
+    → InNameOrder file_name (files_in (run (clearing_listed names) world).world)
 listed_order None world order = order
 listed_order (Some []) world order = order
 listed_order (Some (name ∷ names)) world order = removing_order (name ∷ names) world order
@@ -122,7 +124,8 @@ files_read managed world =
     let leases : List Filed = flat_map filed_for managed in
     let resolver_filed : List Filed = filed_if true Resolver resolver_file in
     let resolver_kept : List KeptFile = file_with Resolver resolver_file resolver.result in
-    subst (ReadFiles managed world) (sym (both_ran ask (loading managed) (λ duid ifaces. Then (Read resolver_file) (λ reading. Done (files_loaded duid ifaces reading))) world))
+    subst (ReadFiles managed world)
+    (sym (both_ran ask (loading managed) (λ duid ifaces. Then (Read resolver_file) (λ reading. Done (files_loaded duid ifaces reading))) world))
     (joined (filed_if (some_need_duid managed) keeps duid_file) (leases ++ resolver_filed) (files_in world)
     (file_with keeps duid_file first.result) (flat_map files_by rest.result ++ resolver_kept) first.world resolver.world
     (one_read (some_need_duid managed) keeps duid_file world)

@@ -28,7 +28,9 @@ module _ (a b : Managed) (fa : FitsManaged a) (fb : FitsManaged b) (unlike : Unl
     where
       by : (same : Bool) → bytes_eq (name_text a.spec.name) (name_text b.spec.name) ≡ same → same ≡ false
       by true e =
-          absurd (unlike.0 (texts_apart name_reads a.spec.name b.spec.name fa.name fb.name ((bytes_eq-Decides (name_text a.spec.name) (name_text b.spec.name)).0 e)))
+          absurd
+          (unlike.0
+          (texts_apart name_reads a.spec.name b.spec.name fa.name fb.name ((bytes_eq-Decides (name_text a.spec.name) (name_text b.spec.name)).0 e)))
       by false e = refl
 
 each_differs : (a : Managed) → FitsManaged a → (others : List Managed) → AreManaged others → AllByRecursion (Unlike a.spec) (specs_of others)

@@ -25,7 +25,8 @@ AreNamedApart managed = IsDistinct bytes_eq (map (λ m. name_text m.spec.name) m
 
 -- so the interfaces of a script
 abbrev pub UnlikeAreNamedApart : Type 0
-UnlikeAreNamedApart = (managed : List Managed) → AreManaged managed → AllPairs Unlike (map (λ m. m.spec) managed) → AreNamedApart managed
+UnlikeAreNamedApart =
+    (managed : List Managed) → AreManaged managed → AllPairs Unlike (map (λ m. m.spec) managed) → AreNamedApart managed
 
 -- what is filed, and under which name
 pub record Filed : Type 0 where
@@ -39,12 +40,14 @@ filed_if false keeps name = []
 -- the leases of an interface, each where its protocol runs
 abbrev pub filed_for : Managed → List Filed
 filed_for m =
-    filed_if (runs_dhcp4 m.conf) (Lease4 m.spec.index.number) (lease4_file m) ++ filed_if (runs_dhcp6 m.conf) (Lease6 m.spec.index.number) (lease6_file m)
+    filed_if (runs_dhcp4 m.conf) (Lease4 m.spec.index.number) (lease4_file m)
+    ++ filed_if (runs_dhcp6 m.conf) (Lease6 m.spec.index.number) (lease6_file m)
 
 -- the DUID, where some interface needs it, the leases, and what the resolver is told
 abbrev pub filed_by : (duid : List ℕ) → List Managed → List Filed
 filed_by duid managed =
-    filed_if (some_need_duid managed) (Duid duid) duid_file ++ (flat_map filed_for managed ++ filed_if true Resolver resolver_file)
+    filed_if (some_need_duid managed) (Duid duid) duid_file
+    ++ (flat_map filed_for managed ++ filed_if true Resolver resolver_file)
 
 abbrev pub filed_as : KeptFile → Filed
 filed_as file = record { keeps = file.keeps; name = file.name }
@@ -63,10 +66,12 @@ KnownTruly Unread reads = Unit {0}
 abbrev pub wanted_of : Running → KeptFile → Option (List ℕ)
 wanted_of running file = wanted_in running.life.client.ifaces file.keeps
 
--- The file is the text of what it keeps, and there is none where it keeps nothing; or it couldn't be read, and is left alone.
+-- The file is the text of what it keeps, and there is none where it keeps nothing; or it couldn't be read, and is left
+-- alone.
 abbrev pub IsAsKept : Running → KeptFile → Type 0
 IsAsKept running file =
-    (reads running file ≡ wanted_of running file) ⊎ ((file.known ≡ Unread) × (is_left file.keeps (wanted_of running file) ≡ true))
+    (reads running file ≡ wanted_of running file)
+    ⊎ ((file.known ≡ Unread) × (is_left file.keeps (wanted_of running file) ≡ true))
 
 -- whether a call that is to change files was done
 abbrev pub was_done : StoreCall → Bool
@@ -81,8 +86,8 @@ was_done (SettledFiles done) = done
 abbrev pub all_done : List Call → Bool
 all_done calls = list_all was_done (flat_map store_call calls)
 
--- After these calls the files are those that are to be kept, with one DUID, and what is known of each is so; where all changes
--- of files were done, each file is as it is to be.
+-- After these calls the files are those that are to be kept, with one DUID, and what is known of each is so; where all
+-- changes of files were done, each file is as it is to be.
 pub record KeepsFiles (managed : List Managed) (calls : List Call) (after : Running) : Type 0 where
   pub duid : List ℕ
   pub filed : map filed_as after.life.files ≡ filed_by duid managed
@@ -97,12 +102,15 @@ OpeningKeepsFiles = (managed : List Managed) (specs : List IfSpec) (world : Worl
 
 -- and after every turn
 abbrev pub TurnsKeepFiles : Type 0
-TurnsKeepFiles = (managed : List Managed) (specs : List IfSpec) (world : World) (earlier : List Given) (given : Given) → AreNamedApart managed
+TurnsKeepFiles =
+    (managed : List Managed) (specs : List IfSpec) (world : World) (earlier : List Given) (given : Given)
+    → AreNamedApart managed
     → InNameOrder file_name world.store.told.files
     → let before = life_run managed specs world earlier in
     KeepsFiles managed (ran_turn managed before.life before.world given).calls (running_turned managed before given)
 
 -- A store whose files stand in order is left so.
 abbrev pub LeavesFilesInOrder : Type 0
-LeavesFilesInOrder = (managed : List Managed) (specs : List IfSpec) (world : World) → InNameOrder file_name world.store.told.files
+LeavesFilesInOrder =
+    (managed : List Managed) (specs : List IfSpec) (world : World) → InNameOrder file_name world.store.told.files
     → InNameOrder file_name (foretold_life managed specs world).left.store.told.files

@@ -24,11 +24,14 @@ told_bytes given = take (frame_len (told_wake given).event) given.bytes
 -- the world after a wait that gave a wake
 abbrev pub woken : (asked : Option ℕ) → Wake → List ℕ → World → World
 woken asked wake bytes world =
-    with_link (waited asked (Some (record { wake = wake; bytes = bytes })) (drop 1 world.link.told.coming) world.link.told) world
+    with_link
+    (waited asked (Some (record { wake = wake; bytes = bytes })) (drop 1 world.link.told.coming) world.link.told)
+    world
 
 abbrev pub ran_turn : List Managed → Life → World → Given → Ran Life
 ran_turn managed life world given =
-    run (turn_asks managed life (told_wake given) (told_bytes given)) (woken (until life) (told_wake given) (told_bytes given) world)
+    run (turn_asks managed life (told_wake given) (told_bytes given))
+    (woken (until life) (told_wake given) (told_bytes given) world)
 
 abbrev pub met_of : Given → Ran Life → Met
 met_of given ran = met_with (told_wake given) (told_bytes given) ran.calls ran.result
@@ -38,7 +41,8 @@ abbrev pub told_turns : List Managed → Life → World → List Given → List 
 told_turns managed life world [] = []
 told_turns managed life world (given ∷ coming) =
     let ran = ran_turn managed life world given in
-    if is_over life || is_end given.wake.event then [] else met_of given ran ∷ told_turns managed ran.result ran.world coming
+    if is_over life || is_end given.wake.event then []
+    else met_of given ran ∷ told_turns managed ran.result ran.world coming
 
 -- what the devices tell after these turns
 abbrev pub told_after : List Managed → Life → World → List Given → World

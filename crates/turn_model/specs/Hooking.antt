@@ -23,15 +23,18 @@ letting_go number (Start job) s = Done s
 abbrev pub polling_child : (at : ℕ) → Supervision → Option Child → Asks Supervision
 polling_child at s None = Done s
 polling_child at s (Some child) =
-    Then (asks.Poll child.number) (λ answer. letting_go child.number (poll_order (heard answer) at s.child) (after_poll (heard answer) at s))
+    Then (asks.Poll child.number)
+    (λ answer. letting_go child.number (poll_order (heard answer) at s.child) (after_poll (heard answer) at s))
 
 abbrev pub polling : (at : ℕ) → Supervision → Asks Supervision
 polling at s = polling_child at s s.child
 
--- ---- jobs: each is put in line, or dropped where the line is full; then the first in line is started, where no child runs
+-- ---- jobs: each is put in line, or dropped where the line is full; then the first in line is started, where no child
+-- runs
 
 abbrev pub putting_one : Job → Supervision → Asks Supervision
-putting_one job s = if is_full s then Then (asks.Drop (numbered job s)) (λ _. Done (after_put job s)) else Done (after_put job s)
+putting_one job s =
+    if is_full s then Then (asks.Drop (numbered job s)) (λ _. Done (after_put job s)) else Done (after_put job s)
 
 abbrev pub putting : List Job → Supervision → Asks Supervision
 putting [] s = Done s

@@ -35,7 +35,15 @@ pub record Remainder : Type 0 where
   pub unsent : ℕ
 
 abbrev pub remainder_of : Life → Remainder
-remainder_of life = record { client = life.client; known = life.known; files = life.files; now = life.now; stop = life.stop; unsent = life.unsent }
+remainder_of life =
+    record {
+      client = life.client;
+      known = life.known;
+      files = life.files;
+      now = life.now;
+      stop = life.stop;
+      unsent = life.unsent;
+    }
 
 -- what a turn shows without its hooks
 pub record TurnSeen : Type 0 where
@@ -45,7 +53,8 @@ pub record TurnSeen : Type 0 where
   pub life : Remainder
 
 abbrev pub turn_seen : Met → TurnSeen
-turn_seen met = record { wake = met.wake; bytes = met.bytes; calls = calls_of_others met.calls; life = remainder_of met.life }
+turn_seen met =
+    record { wake = met.wake; bytes = met.bytes; calls = calls_of_others met.calls; life = remainder_of met.life }
 
 -- two lives that are the same but for their hooks
 pub record SameButHooks (one other : ForetoldLife) : Type 0 where
@@ -61,7 +70,10 @@ abbrev pub HooksChangeNothing : Type 0
 HooksChangeNothing = (managed : List Managed) (specs : List IfSpec) (world : World) (hooks : Told HooksTold (List ℕ))
     → SameButHooks (foretold_life managed specs world) (foretold_life managed specs (record world { hooks = hooks }))
 
--- The next wait of a life is asked another moment only where its hooks want a turn at another one: a child runs, or a job waits.
+-- The next wait of a life is asked another moment only where its hooks want a turn at another one: a child runs, or a
+-- job waits.
 abbrev pub WaitsByHooks : Type 0
-WaitsByHooks = (one other : Life) → remainder_of one ≡ remainder_of other → hooks_due one.hooks one.now ≡ hooks_due other.hooks other.now
+WaitsByHooks =
+    (one other : Life) → remainder_of one ≡ remainder_of other
+    → hooks_due one.hooks one.now ≡ hooks_due other.hooks other.now
     → until one ≡ until other

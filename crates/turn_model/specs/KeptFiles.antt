@@ -46,8 +46,8 @@ same_content None (Some b) = false
 same_content (Some a) None = false
 same_content (Some a) (Some b) = bytes_eq a b
 
--- A file that couldn't be read is left alone: that of a lease until one is kept, that of the DUID for good. That of the resolver
--- isn't.
+-- A file that couldn't be read is left alone: that of a lease until one is kept, that of the DUID for good. That of the
+-- resolver isn't.
 abbrev pub is_left : Keeps → (wanted : Option (List ℕ)) → Bool
 is_left (Duid bytes) wanted = true
 is_left (Lease4 iface) wanted = is_none wanted
@@ -67,7 +67,8 @@ abbrev pub if_done : Bool → Asks Bool → Asks Bool
 if_done true more = more
 if_done false more = Done false
 
--- a file is written aside, synced, put in place, and that is settled; or it is removed, and that is settled; whether all was done
+-- a file is written aside, synced, put in place, and that is settled; or it is removed, and that is settled; whether
+-- all was done
 abbrev pub bringing : (name : List ℕ) → (wanted : Option (List ℕ)) → Asks Bool
 bringing name (Some bytes) =
     Then (WriteAside name bytes) (λ written. if_done written

@@ -26,7 +26,8 @@ pub record BeginsTurn (managed : List Managed) (from : Life) (call : Call) (call
 -- a turn up to a moment: none is begun in a life that is over
 abbrev pub FrontOfTurn : List Managed → Life → List Call → Type 0
 FrontOfTurn managed from [] = Unit {0}
-FrontOfTurn managed from (call ∷ calls) = (is_over from ≡ false) × (FailsWait from call calls ⊎ BeginsTurn managed from call calls)
+FrontOfTurn managed from (call ∷ calls) =
+    (is_over from ≡ false) × (FailsWait from call calls ⊎ BeginsTurn managed from call calls)
 
 -- a life that was cut off in its opening
 pub record InOpening (managed : List Managed) (specs : List IfSpec) (calls : List Call) : Type 0 where

@@ -63,18 +63,22 @@ turns_calls from (met ∷ mets) = turn_calls from met ++ turns_calls met.life me
 -- A life ends where the five seconds after a stop are over, or before that with a wait that gave no more.
 abbrev pub IsLast : Life → List Call → Type 0
 IsLast life [] = is_over life ≡ true
-IsLast life (Link (Waited asked (Some given)) ∷ []) = (is_over life ≡ false) × (asked ≡ until life) × (is_end given.wake.event ≡ true)
+IsLast life (Link (Waited asked (Some given)) ∷ []) =
+    (is_over life ≡ false) × (asked ≡ until life) × (is_end given.wake.event ≡ true)
 IsLast life other = ⊥
 
 -- ---- the lines
 
 -- how the life began, its calls, and what the next wait is asked
 abbrev pub opening_lines : OpeningMet → List Line
-opening_lines opening = lines.Start opening.begin ∷ (flat_map lines_of opening.calls ++ lines.Until (until opening.life) ∷ [])
+opening_lines opening =
+    lines.Start opening.begin ∷ (flat_map lines_of opening.calls ++ lines.Until (until opening.life) ∷ [])
 
 -- what came, the turn's calls, and what the next wait is asked
 abbrev pub turn_lines : Met → List Line
-turn_lines met = lines.Turn met.life.now met.wake.salt met.wake.event met.bytes ∷ (flat_map lines_of met.calls ++ lines.Until (until met.life) ∷ [])
+turn_lines met =
+    lines.Turn met.life.now met.wake.salt met.wake.event met.bytes
+    ∷ (flat_map lines_of met.calls ++ lines.Until (until met.life) ∷ [])
 
 -- the wanted addresses as the last turn left them
 abbrev pub hold_lines : List HostRow → List Line
@@ -86,4 +90,5 @@ abbrev pub closing_lines : Life → List Line
 closing_lines life = hold_lines (rows_of life.client) ++ lines.EndOfLife ∷ []
 
 abbrev pub life_lines : OpeningMet → List Met → List Line
-life_lines opening mets = opening_lines opening ++ (flat_map turn_lines mets ++ closing_lines (life_after opening.life mets))
+life_lines opening mets =
+    opening_lines opening ++ (flat_map turn_lines mets ++ closing_lines (life_after opening.life mets))

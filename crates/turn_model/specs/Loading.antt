@@ -27,8 +27,8 @@ lease4_file managed = name_text managed.spec.name ++ codes ".lease4"
 abbrev pub lease6_file : Managed → List ℕ
 lease6_file managed = name_text managed.spec.name ++ codes ".lease6"
 
--- ---- what is read: the DUID where some interface needs it, each interface's leases where their protocols run, and what the
--- resolver is told
+-- ---- what is read: the DUID where some interface needs it, each interface's leases where their protocols run, and
+-- what the resolver is told
 
 abbrev pub reading_if : (is_kept : Bool) → (name : List ℕ) → Asks (Option Reading)
 reading_if true name = Then (Read name) (λ reading. Done (Some reading))

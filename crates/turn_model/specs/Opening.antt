@@ -1,4 +1,5 @@
--- The opening of a life: asides are cleared, the files read, and then what the client's opening asks, by the parts of a turn.
+-- The opening of a life: asides are cleared, the files read, and then what the client's opening asks, by the parts of a
+-- turn.
 use Rattle.std.specs.Prelude.{ℕ, List, [], ◌∷◌, Option, Some, None}
 use Rattle.net_types.specs.declared.interface.IfSpec.{IfSpec}
 use Rattle.world.specs.declared.wakes.Begin.{Begin}

@@ -9,7 +9,8 @@ use Rattle.settings.specs.declared.interfaces.Managed.{Managed}
 use Rattle.client_model.specs.KeptLeases.{Beginning}
 use Rattle.turn_model.specs.Loading.{FilesLoaded, beginnings_of}
 
--- It has the name of the interface and, where it tells to which hardware address it was granted, the interface has that.
+-- It has the name of the interface and, where it tells to which hardware address it was granted, the interface has
+-- that.
 pub record IsOfInterface (spec : IfSpec) (name : Name) (origin : Option Origin) : Type 0 where
   pub named : name_text name ≡ name_text spec.name
   pub granted : IfSome origin (λ from. from.mac ≡ spec.mac)
@@ -20,4 +21,5 @@ pub record BeginsWithOwn (b : Beginning) : Type 0 where
 
 -- whatever the files hold, and whichever of them could be read
 abbrev pub AllBeginWithOwn : Type 0
-AllBeginWithOwn = (managed : List Managed) (files : FilesLoaded) → AllByRecursion BeginsWithOwn (beginnings_of managed files)
+AllBeginWithOwn =
+    (managed : List Managed) (files : FilesLoaded) → AllByRecursion BeginsWithOwn (beginnings_of managed files)

@@ -1,4 +1,5 @@
--- One turn of a life: the client's step, then what it asks of the devices, part after part, and what comes of the answers.
+-- One turn of a life: the client's step, then what it asks of the devices, part after part, and what comes of the
+-- answers.
 use Rattle.std.specs.Prelude.{ℕ, ◌+◌, ◌-◌, ◌^◌, Bool, true, false, max, nat_le, List, [], ◌∷◌, filter, bit_or, Option, Some, None}
 use Rattle.world.specs.declared.wakes.Event.{Event}
 use Rattle.world.specs.declared.wakes.Event.TheVariants.{Stop, End}
@@ -64,7 +65,8 @@ end_at (Some at) = Some (at + 5000)
 -- the moment that the next wait is asked for
 abbrev pub until : Life → Option ℕ
 until life =
-    earlier (client_due life.client.ifaces) (earlier (retry_at life.known life.now) (earlier (hooks_due life.hooks life.now)
+    earlier (client_due life.client.ifaces)
+    (earlier (retry_at life.known life.now) (earlier (hooks_due life.hooks life.now)
     (earlier (file_retry_at life.files life.now) (end_at life.stop))))
 
 abbrev pub is_past : Option ℕ → ℕ → Bool
@@ -90,8 +92,8 @@ offering [] unsent = Done unsent
 offering (sending ∷ sends) unsent =
     Then (Offer sending.iface.number sending.bytes) (λ taken. offering sends (marked unsent sending.iface.number taken))
 
--- ---- the host: a listing where its rows aren't known, then removals in the reverse of the row order, then additions in row
--- order; a failed change stops none, and makes the rows unknown
+-- ---- the host: a listing where its rows aren't known, then removals in the reverse of the row order, then additions
+-- in row order; a failed change stops none, and makes the rows unknown
 
 abbrev pub known_with : Bool → HostChange → Option (List HostRow) → Option (List HostRow)
 known_with false change known = None
@@ -107,11 +109,14 @@ abbrev pub rows_on : List Managed → List HostRow → List HostRow
 rows_on managed rows = in_row_order (filter (is_managed managed) rows)
 
 -- after a listing; where it failed no more is asked
-abbrev pub hosting_listed : List Managed → (wanted : List HostRow) → Option (List HostRow) → Asks (Option (List HostRow))
+abbrev pub hosting_listed : List Managed → (wanted : List HostRow) → Option (List HostRow)
+    → Asks (Option (List HostRow))
 hosting_listed managed wanted None = Done None
-hosting_listed managed wanted (Some rows) = changing (changes (rows_on managed rows) wanted) (Some (rows_on managed rows))
+hosting_listed managed wanted (Some rows) =
+    changing (changes (rows_on managed rows) wanted) (Some (rows_on managed rows))
 
-abbrev pub hosting : List Managed → (wanted : List HostRow) → (known : Option (List HostRow)) → Asks (Option (List HostRow))
+abbrev pub hosting : List Managed → (wanted : List HostRow) → (known : Option (List HostRow))
+    → Asks (Option (List HostRow))
 hosting managed wanted None = Then ListRows (hosting_listed managed wanted)
 hosting managed wanted (Some known) = changing (changes known wanted) (Some known)
 
@@ -130,11 +135,21 @@ acting managed outlook step moment stop =
     after (hosting managed (rows_of step.client) outlook.known) (λ known.
     after (hooking moment step.jobs outlook.hooks) (λ hooks.
     after (keeping step.client.ifaces outlook.files) (λ files.
-    Done (record { client = step.client; known = known; files = files; hooks = hooks; now = moment; stop = stop; unsent = unsent })))))
+    Done
+    (record {
+      client = step.client;
+      known = known;
+      files = files;
+      hooks = hooks;
+      now = moment;
+      stop = stop;
+      unsent = unsent;
+    })))))
 
 -- the turn as the interfaces meet it
 abbrev pub input_of : Life → Wake → List ℕ → Turn
-input_of life wake bytes = record { at = turn_moment life wake; salt = wake.salt; unsent = life.unsent; event = wake.event; bytes = bytes }
+input_of life wake bytes =
+    record { at = turn_moment life wake; salt = wake.salt; unsent = life.unsent; event = wake.event; bytes = bytes }
 
 abbrev pub step_of : Life → Wake → List ℕ → ClientStep
 step_of life wake bytes = client_turned (input_of life wake bytes) life.client
@@ -145,4 +160,5 @@ outlook_with life hooks = record { known = life.known; files = life.files; hooks
 unfoldable pub turn_asks : List Managed → Life → Wake → List ℕ → Asks Life
 turn_asks managed life wake bytes =
     after (polling (turn_moment life wake) life.hooks) (λ hooks.
-    acting managed (outlook_with life hooks) (step_of life wake bytes) (turn_moment life wake) (stop_after life.stop wake.event (turn_moment life wake)))
+    acting managed (outlook_with life hooks) (step_of life wake bytes) (turn_moment life wake)
+    (stop_after life.stop wake.event (turn_moment life wake)))

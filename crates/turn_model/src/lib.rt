@@ -1,4 +1,5 @@
-//! What a life is: its opening, its turns and its end, each a program of questions to devices. Definitions, and the laws about them.
+//! What a life is: its opening, its turns and its end, each a program of questions to devices. Definitions, and the
+//! laws about them.
 #![tactic(auto)]
 
 mod laws;

@@ -57,7 +57,8 @@ packet_heard p rest from_fits to_fits small =
     let right : (ones_sum (take 20 b) == 65535) ≡ true = rw (head_heard p.from p.to total) refl in
     let test : is_packet b ≡ true = rw (long, total_is, header, within, right) refl in
     let body : drop 20 (take (word_in b 2) b) ≡ p.body = rw (total_is, take_at (packet_text p) rest total (omega arith)) refl in
-    packet_by b p test (ap (λ n. record { number = n }) (from_be_bytes-to_be_bytes_4 p.from.number from_fits)) (ap (λ n. record { number = n }) (from_be_bytes-to_be_bytes_4 p.to.number to_fits)) body
+    packet_by b p test (ap (λ n. record { number = n }) (from_be_bytes-to_be_bytes_4 p.from.number from_fits))
+    (ap (λ n. record { number = n }) (from_be_bytes-to_be_bytes_4 p.to.number to_fits)) body
 
 -- ---- both
 
@@ -72,14 +73,18 @@ checked_heard from to from_port to_port payload range =
     let d = datagram_text (pseudo4 from to (8 + length payload)) from_port to_port payload in
     let len : length d ≡ 8 + length payload = omega arith in
     let right : ones_sum (pseudo4 from to (length d) ++ d) ≡ 65535 =
-    ap (λ n. ones_sum (pseudo4 from to n ++ d)) len ∙ sum_heard (pseudo4 from to (8 + length payload)) from_port to_port (8 + length payload) payload refl (pseudo_bytes from to (8 + length payload)) range in
+    ap (λ n. ones_sum (pseudo4 from to n ++ d)) len
+    ∙ sum_heard (pseudo4 from to (8 + length payload)) from_port to_port (8 + length payload) payload refl
+    (pseudo_bytes from to (8 + length payload)) range in
     or_true (word_in d 6 == 0) (ones_sum (pseudo4 from to (length d) ++ d) == 65535) (rw right refl)
 
-datagram_said : (from to : Ip4) (d : List ℕ) (from_port to_port : ℕ) (payload : List ℕ) → is_checked4 from to d ≡ true → word_in d 0 ≡ from_port → word_in d 2 ≡ to_port
+datagram_said : (from to : Ip4) (d : List ℕ) (from_port to_port : ℕ) (payload : List ℕ) → is_checked4 from to d ≡ true → word_in d 0 ≡ from_port
+    → word_in d 2 ≡ to_port
     → drop 8 d ≡ payload → checked4_in from to d ≡ Some (said4 from to from_port to_port payload)
 datagram_said from to d from_port to_port payload checked from_is to_is payload_is = rw (checked, from_is, to_is, payload_is) refl
 
-pub said_is_heard : (m : Udp4) (rest : List ℕ) → fits m.from → fits m.to → m.from_port < 2 ^ 16 → m.to_port < 2 ^ 16 → 28 + length m.payload < 2 ^ 16 → AreBytes m.payload
+pub said_is_heard : (m : Udp4) (rest : List ℕ) → fits m.from → fits m.to → m.from_port < 2 ^ 16 → m.to_port < 2 ^ 16 → 28 + length m.payload < 2 ^ 16
+    → AreBytes m.payload
     → udp4_in (udp4_text m ++ rest) ≡ Some m
 unfolding udp4_in udp4_text
 said_is_heard m rest from_fits to_fits from_port to_port small range =

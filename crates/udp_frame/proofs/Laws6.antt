@@ -77,7 +77,8 @@ sent_small (suc n) h =
 
 -- the checksum that is sent is there
 module _ (pseudo : List ℕ) (from_port to_port len : ℕ) (payload : List ℕ) where
-  sum_is : word_in (ports_text from_port to_port len (datagram_sum pseudo from_port to_port len payload) ++ payload) 6 ≡ datagram_sum pseudo from_port to_port len payload
+  sum_is : word_in (ports_text from_port to_port len (datagram_sum pseudo from_port to_port len payload) ++ payload) 6
+      ≡ datagram_sum pseudo from_port to_port len payload
   sum_is =
       from_be_bytes-to_be_bytes_2 (datagram_sum pseudo from_port to_port len payload)
       (sent_small (checksum (pseudo ++ ports_text from_port to_port len 0 ++ payload)) (omega arith))
@@ -100,10 +101,13 @@ checked_heard from to from_port to_port payload range =
     let d = datagram_text pseudo from_port to_port payload in
     let len : length d ≡ 8 + length payload = omega arith in
     let right : ones_sum (pseudo6 from to (length d) ++ d) ≡ 65535 =
-    ap (λ n. ones_sum (pseudo6 from to n ++ d)) len ∙ sum_heard pseudo from_port to_port (8 + length payload) payload refl (pseudo_bytes from to (8 + length payload)) range in
-    both (word_in d 6 == 0) (ones_sum (pseudo6 from to (length d) ++ d) == 65535) (sum_there pseudo from_port to_port (8 + length payload) payload) (rw right refl)
+    ap (λ n. ones_sum (pseudo6 from to n ++ d)) len
+    ∙ sum_heard pseudo from_port to_port (8 + length payload) payload refl (pseudo_bytes from to (8 + length payload)) range in
+    both (word_in d 6 == 0) (ones_sum (pseudo6 from to (length d) ++ d) == 65535) (sum_there pseudo from_port to_port (8 + length payload) payload)
+    (rw right refl)
 
-datagram_said : (from to : Ip6) (d : List ℕ) (from_port to_port : ℕ) (payload : List ℕ) → is_checked6 from to d ≡ true → word_in d 0 ≡ from_port → word_in d 2 ≡ to_port
+datagram_said : (from to : Ip6) (d : List ℕ) (from_port to_port : ℕ) (payload : List ℕ) → is_checked6 from to d ≡ true → word_in d 0 ≡ from_port
+    → word_in d 2 ≡ to_port
     → drop 8 d ≡ payload → checked6_in from to d ≡ Some (said6 from to from_port to_port payload)
 datagram_said from to d from_port to_port payload checked from_is to_is payload_is = rw (checked, from_is, to_is, payload_is) refl
 
@@ -123,11 +127,13 @@ packet_heard p rest from_fits to_fits small =
     let within : nat_le (40 + length p.body) (length b) ≡ true = le-leb _ _ (omega arith) in
     let test : is_packet6 b ≡ true = rw (long, len, within) refl in
     let body : take (word_in b 4) (drop 40 b) ≡ p.body = rw len (take_at p.body rest (length p.body) refl) in
-    packet_by b p test (ap (λ n. record { number = n }) (wide_back p.from.number from_fits)) (ap (λ n. record { number = n }) (wide_back p.to.number to_fits)) body
+    packet_by b p test (ap (λ n. record { number = n }) (wide_back p.from.number from_fits))
+    (ap (λ n. record { number = n }) (wide_back p.to.number to_fits)) body
 
 -- ---- both
 
-pub said_is_heard6 : (m : Udp6) (rest : List ℕ) → fits6 m.from → fits6 m.to → m.from_port < 2 ^ 16 → m.to_port < 2 ^ 16 → 8 + length m.payload < 2 ^ 16 → AreBytes m.payload
+pub said_is_heard6 : (m : Udp6) (rest : List ℕ) → fits6 m.from → fits6 m.to → m.from_port < 2 ^ 16 → m.to_port < 2 ^ 16 → 8 + length m.payload < 2 ^ 16
+    → AreBytes m.payload
     → udp6_in (udp6_text m ++ rest) ≡ Some m
 unfolding udp6_in udp6_text
 said_is_heard6 m rest from_fits to_fits from_port to_port small range =

@@ -16,7 +16,8 @@ joined eth head ports payload = simp append_assoc
 pub spelled : (ends : Ends4) (from_port to_port : ℕ) (payload : List ℕ)
     → (ends.to_mac.bytes ++ ends.from_mac.bytes ++ word_text ip4_kind)
     ++ whole_head ends.from ends.to (20 + (8 + length payload))
-    ++ ports_text from_port to_port (8 + length payload) (datagram_sum (pseudo4 ends.from ends.to (8 + length payload)) from_port to_port (8 + length payload) payload)
+    ++ ports_text from_port to_port (8 + length payload)
+    (datagram_sum (pseudo4 ends.from ends.to (8 + length payload)) from_port to_port (8 + length payload) payload)
     ++ payload
     ≡ udp4_frame_text ends from_port to_port payload
 unfolding udp4_frame_text udp4_text
@@ -25,13 +26,15 @@ spelled ends from_port to_port payload =
     let len : 20 + (8 + length payload) ≡ 20 + whole = omega arith in
     rw len (joined (ends.to_mac.bytes ++ ends.from_mac.bytes ++ word_text ip4_kind)
     (whole_head ends.from ends.to (20 + whole))
-    (ports_text from_port to_port (8 + length payload) (datagram_sum (pseudo4 ends.from ends.to (8 + length payload)) from_port to_port (8 + length payload) payload))
+    (ports_text from_port to_port (8 + length payload)
+    (datagram_sum (pseudo4 ends.from ends.to (8 + length payload)) from_port to_port (8 + length payload) payload))
     payload)
 
 pub spelled6 : (ends : Ends6) (from_port to_port : ℕ) (payload : List ℕ)
     → (ends.to_mac.bytes ++ ends.from_mac.bytes ++ word_text ip6_kind)
     ++ head6_text ends.from ends.to (8 + length payload)
-    ++ ports_text from_port to_port (8 + length payload) (datagram_sum (pseudo6 ends.from ends.to (8 + length payload)) from_port to_port (8 + length payload) payload)
+    ++ ports_text from_port to_port (8 + length payload)
+    (datagram_sum (pseudo6 ends.from ends.to (8 + length payload)) from_port to_port (8 + length payload) payload)
     ++ payload
     ≡ udp6_frame_text ends from_port to_port payload
 unfolding udp6_frame_text udp6_text
@@ -39,7 +42,8 @@ spelled6 ends from_port to_port payload =
     let len : length (datagram_text (pseudo6 ends.from ends.to (8 + length payload)) from_port to_port payload) ≡ 8 + length payload = omega arith in
     rw len (joined (ends.to_mac.bytes ++ ends.from_mac.bytes ++ word_text ip6_kind)
     (head6_text ends.from ends.to (8 + length payload))
-    (ports_text from_port to_port (8 + length payload) (datagram_sum (pseudo6 ends.from ends.to (8 + length payload)) from_port to_port (8 + length payload) payload))
+    (ports_text from_port to_port (8 + length payload)
+    (datagram_sum (pseudo6 ends.from ends.to (8 + length payload)) from_port to_port (8 + length payload) payload))
     payload)
 
 pub not_zero : (n : ℕ) → n ≢ 0 → (n == 0) ≡ false

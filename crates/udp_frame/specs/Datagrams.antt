@@ -30,8 +30,11 @@ sent_sum sum = if sum == 0 then 65535 else sum
 
 -- the checksum is that of what stands before, the header with 0 in its place, and the data
 abbrev pub datagram_sum : List ℕ → ℕ → ℕ → ℕ → List ℕ → ℕ
-datagram_sum pseudo from_port to_port len payload = sent_sum (checksum (pseudo ++ ports_text from_port to_port len 0 ++ payload))
+datagram_sum pseudo from_port to_port len payload =
+    sent_sum (checksum (pseudo ++ ports_text from_port to_port len 0 ++ payload))
 
 abbrev pub datagram_text : List ℕ → ℕ → ℕ → List ℕ → List ℕ
 datagram_text pseudo from_port to_port payload =
-    ports_text from_port to_port (8 + length payload) (datagram_sum pseudo from_port to_port (8 + length payload) payload) ++ payload
+    ports_text from_port to_port (8 + length payload)
+    (datagram_sum pseudo from_port to_port (8 + length payload) payload)
+    ++ payload

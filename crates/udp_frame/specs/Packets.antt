@@ -28,7 +28,8 @@ is_whole b = word_in b 6 % 0x4000 == 0
 abbrev pub is_packet : List ℕ → Bool
 is_packet b =
     nat_le 20 (length b) && (slice_index b 0 / 16 == 4) && nat_le 20 (head_len b) && nat_le (head_len b) (word_in b 2)
-    && nat_le (word_in b 2) (length b) && is_whole b && (slice_index b 9 == udp_protocol) && (ones_sum (take (head_len b) b) == 65535)
+    && nat_le (word_in b 2) (length b) && is_whole b && (slice_index b 9 == udp_protocol)
+    && (ones_sum (take (head_len b) b) == 65535)
 
 unfoldable pub packet_in : List ℕ → Option Packet
 packet_in b =
@@ -40,7 +41,8 @@ packet_in b =
 -- 64 hops to live, protocol, header checksum, source, destination
 abbrev pub head_text : Ip4 → Ip4 → ℕ → ℕ → List ℕ
 head_text from to total sum =
-    (0x45 ∷ 0 ∷ []) ++ word_text total ++ word_text 0 ++ word_text 0x4000 ++ (64 ∷ udp_protocol ∷ []) ++ word_text sum ++ ip4_text from ++ ip4_text to
+    (0x45 ∷ 0 ∷ []) ++ word_text total ++ word_text 0 ++ word_text 0x4000 ++ (64 ∷ udp_protocol ∷ []) ++ word_text sum
+    ++ ip4_text from ++ ip4_text to
 
 -- the header's checksum is that of the header with 0 in its place
 abbrev pub whole_head : Ip4 → Ip4 → ℕ → List ℕ

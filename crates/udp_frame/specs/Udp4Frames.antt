@@ -19,21 +19,35 @@ pub record Udp4 : Type 0 where
 abbrev pub checked4_in : Ip4 → Ip4 → List ℕ → Option Udp4
 checked4_in from to datagram =
     if is_checked4 from to datagram
-    then Some (record { from = from; to = to; from_port = word_in datagram 0; to_port = word_in datagram 2; payload = drop 8 datagram })
+    then Some
+    (record {
+      from = from;
+      to = to;
+      from_port = word_in datagram 0;
+      to_port = word_in datagram 2;
+      payload = drop 8 datagram;
+    })
     else None
 
 unfoldable pub udp4_in : List ℕ → Option Udp4
-udp4_in body = option_and_then (λ p. option_and_then (λ d. checked4_in p.from p.to d) (datagram_in p.body)) (packet_in body)
+udp4_in body =
+    option_and_then (λ p. option_and_then (λ d. checked4_in p.from p.to d) (datagram_in p.body)) (packet_in body)
 
 -- what a view shows
 abbrev pub shown4 : Udp4View → Udp4
 shown4 v = record { from = v.from; to = v.to; from_port = v.from_port; to_port = v.to_port; payload = v.payload.now }
 
 abbrev pub said4 : Ip4 → Ip4 → ℕ → ℕ → List ℕ → Udp4
-said4 from to from_port to_port payload = record { from = from; to = to; from_port = from_port; to_port = to_port; payload = payload }
+said4 from to from_port to_port payload =
+    record { from = from; to = to; from_port = from_port; to_port = to_port; payload = payload }
 
 abbrev pub udp4_packet : Udp4 → Packet
-udp4_packet m = record { from = m.from; to = m.to; body = datagram_text (pseudo4 m.from m.to (8 + length m.payload)) m.from_port m.to_port m.payload }
+udp4_packet m =
+    record {
+      from = m.from;
+      to = m.to;
+      body = datagram_text (pseudo4 m.from m.to (8 + length m.payload)) m.from_port m.to_port m.payload;
+    }
 
 unfoldable pub udp4_text : Udp4 → List ℕ
 udp4_text m = packet_text (udp4_packet m)
@@ -43,7 +57,8 @@ ip4_kind = 0x0800
 
 -- the frame between two ends
 abbrev pub udp4_frame : Ends4 → ℕ → ℕ → List ℕ → Frame
-udp4_frame ends from_port to_port payload = said ends.to_mac ends.from_mac ip4_kind (udp4_text (said4 ends.from ends.to from_port to_port payload))
+udp4_frame ends from_port to_port payload =
+    said ends.to_mac ends.from_mac ip4_kind (udp4_text (said4 ends.from ends.to from_port to_port payload))
 
 unfoldable pub udp4_frame_text : Ends4 → ℕ → ℕ → List ℕ → List ℕ
 udp4_frame_text ends from_port to_port payload = frame_text (udp4_frame ends from_port to_port payload)

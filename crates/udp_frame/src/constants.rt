@@ -8,8 +8,8 @@ use crate::dhcp6::{
 use crate::udp4::KIND_IPV4;
 use crate::udp6::KIND_IPV6;
 
-/// Law: EtherTypes are those of RFC 894 and RFC 2464, section 3; ports and the group of servers those of RFC 8415, sections 7.1
-/// and 7.2.
+/// Law: EtherTypes are those of RFC 894 and RFC 2464, section 3; ports and the group of servers those of RFC 8415,
+/// sections 7.1 and 7.2.
 pub fn numbers_are_those_assigned()
     ensures kind_ipv4 { KIND_IPV4 ≡ 2048 }
     ensures kind_ipv6 { KIND_IPV6 ≡ 34525 }

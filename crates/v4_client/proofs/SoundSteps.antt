@@ -351,7 +351,9 @@ module _ (kept : Option Terms4) where
       from None is good = record { state = tt; keep = tt; held = tt }
       from (Some terms) is good =
           gated (IsSoundBegin before) (is_due (expiry terms) turn.at || eqb turn.site.reboot 0) _ _ (record { state = tt; keep = tt; held = tt })
-          (gated (λ (stands : Option Terms4). IsSoundBegin before (rebooting turn (new_exchange turn terms.net.ip) Four (turn.at + SECOND * turn.site.reboot) stands))
+          (gated
+          (λ (stands : Option Terms4). IsSoundBegin before
+          (rebooting turn (new_exchange turn terms.net.ip) Four (turn.at + SECOND * turn.site.reboot) stands))
           (turn.site.persistent && may_stand && is_some terms.origin) (Some terms) None (asks terms is good (Some terms) good (inr is))
           (asks terms is good None tt tt))
 

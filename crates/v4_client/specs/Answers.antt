@@ -24,7 +24,8 @@ use Rattle.v4_client.specs.Settings.{SettingsContent}
 
 -- an answer in an exchange of this client: it has the xid and the hardware address
 abbrev pub is_answer : SettingsContent → (xid : ℕ) → Arrival → Bool
-is_answer settings xid arrival = (arrival.message.xid == xid) && bytes_eq arrival.message.chaddr.bytes settings.site.iface.mac.bytes
+is_answer settings xid arrival =
+    (arrival.message.xid == xid) && bytes_eq arrival.message.chaddr.bytes settings.site.iface.mac.bytes
 
 abbrev pub is_blacklisted : SettingsContent → Ip4 → Bool
 is_blacklisted settings server = list_any (is_within server) settings.blacklist
@@ -77,7 +78,8 @@ is_unexpired first lease at = (lease == INFINITE_LEASE) || nat_lt at (first + SE
 -- the address asked for, by the chosen server, for a time that isn't over and isn't 0, and with all that must be there
 abbrev pub is_good_ack : SettingsContent → Exchange4 → Arrival → (lease : ℕ) → Bool
 is_good_ack settings exchange arrival lease =
-    (arrival.message.yiaddr.number == exchange.address.number) && not (lease == 0) && is_unexpired exchange.first lease arrival.at
+    (arrival.message.yiaddr.number == exchange.address.number) && not (lease == 0)
+    && is_unexpired exchange.first lease arrival.at
     && are_there arrival.message.instances settings.required
 
 abbrev pub ack_by : SettingsContent → Exchange4 → Arrival → (server : Ip4) → (lease : Option ℕ) → Answer4

@@ -29,7 +29,8 @@ is_awaited_by settings arrival (Some xid) = is_some (answering settings xid arri
 abbrev pub is_awaited : SettingsContent → Arrival → State4 → Bool
 is_awaited settings arrival state = is_awaited_by settings arrival (awaited state)
 
--- it is an ACK that is taken, with the values of its lease, or an option that it must have is longer than a frame can bring
+-- it is an ACK that is taken, with the values of its lease, or an option that it must have is longer than a frame can
+-- bring
 abbrev pub may_want_memory : SettingsContent → Arrival → State4 → Bool
 may_want_memory settings arrival state =
     is_grant (answer_of settings arrival state) || has_long_value arrival.message.instances settings.required

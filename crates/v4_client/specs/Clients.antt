@@ -16,8 +16,8 @@ use Rattle.v4_client.specs.declared.states.State4.TheVariants.{Off, Init, Select
 use Rattle.v4_client.specs.declared.states.Turn4.{Turn4}
 use Rattle.v4_client.specs.Settings.{SettingsContent, settings_content}
 
--- the settings, the transaction id of the last exchange, the state, whether the client may still stand on the lease with which
--- it was made, the lease that is kept, and the values of the lease that is checked
+-- the settings, the transaction id of the last exchange, the state, whether the client may still stand on the lease
+-- with which it was made, the lease that is kept, and the values of the lease that is checked
 pub record ClientContent : Type 0 where
   pub settings : SettingsContent
   pub last : Option ℕ

@@ -1,4 +1,5 @@
--- What conflict detection says of an address that is checked or held, and what follows (RFC 5227; RFC 2131, section 4.4.1).
+-- What conflict detection says of an address that is checked or held, and what follows (RFC 5227; RFC 2131, section
+-- 4.4.1).
 use Rattle.std.specs.Prelude.{ℕ, Option, Some}
 use Rattle.arp_acd.specs.declared.detection.Acd.{Acd}
 use Rattle.arp_acd.specs.declared.detection.AcdSays.{AcdSays}
@@ -12,8 +13,8 @@ use Rattle.v4_client.specs.declared.states.Step4.{Step4}
 use Rattle.v4_client.specs.declared.states.Turn4.{Turn4}
 use Rattle.v4_client.specs.Steps.{rests, standing_news, bound_news, binds, declines, gives_up}
 
--- An address that is checked: a probe is said; it has passed, and is bound and announced; a conflict, and it is declined, and
--- the kept lease isn't held any more on which the client stood.
+-- An address that is checked: a probe is said; it has passed, and is bound and announced; a conflict, and it is
+-- declined, and the kept lease isn't held any more on which the client stood.
 abbrev pub checked : Turn4 → (xid : ℕ) → Terms4 → Origin4 → Acd → (stands : Option Terms4) → AcdSays → Step4
 checked turn xid terms origin acd stands SayProbe =
     record (rests turn (Checking xid terms origin acd stands)) { arp = Some (Probe terms.net.ip) }

@@ -32,7 +32,8 @@ abbrev pub granted : Turn4 → (xid : ℕ) → Terms4 → Origin4 → (stands : 
 granted turn xid terms origin stands =
     if turn.site.noarp
     then binds turn xid terms (bound_news origin) None
-    else rests turn (Checking xid terms origin (detection.acd_begun turn.site.iface.index terms.net.ip turn.at turn.salt) stands)
+    else rests turn
+    (Checking xid terms origin (detection.acd_begun turn.site.iface.index terms.net.ip turn.at turn.salt) stands)
 
 -- Requesting and Rebooting: an acceptable ACK, or NAK.
 abbrev pub answered : Turn4 → (xid : ℕ) → Origin4 → (stands : Option Terms4) → State4 → Answer4 → Step4
@@ -81,9 +82,11 @@ arp_row own turn arp Off = rests turn Off
 arp_row own turn arp (Init due) = rests turn (Init due)
 arp_row own turn arp (Selecting xid began secs backoff due) = rests turn (Selecting xid began secs backoff due)
 arp_row own turn arp (Requesting exchange secs backoff due) = rests turn (Requesting exchange secs backoff due)
-arp_row own turn arp (Rebooting exchange backoff end due stands) = rests turn (Rebooting exchange backoff end due stands)
+arp_row own turn arp (Rebooting exchange backoff end due stands) =
+    rests turn (Rebooting exchange backoff end due stands)
 arp_row own turn arp (Checking xid terms origin acd stands) =
-    checked turn xid terms origin (detection.acd_hears own acd arp turn.at).acd stands (detection.acd_hears own acd arp turn.at).says
+    checked turn xid terms origin (detection.acd_hears own acd arp turn.at).acd stands
+    (detection.acd_hears own acd arp turn.at).says
 arp_row own turn arp (Waiting due) = rests turn (Waiting due)
 arp_row own turn arp (Bound xid terms acd) = contested own turn arp xid terms (Bound xid terms acd) acd
 arp_row own turn arp (Renewing exchange terms acd due) =

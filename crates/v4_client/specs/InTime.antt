@@ -1,5 +1,5 @@
--- A client is woken in time (RFC 2131, sections 3.1, 4.1, 4.4.1, 4.4.2 and 4.4.5; RFC 5227): at the first moment from which on a
--- timed row of the table fits, and not before.
+-- A client is woken in time (RFC 2131, sections 3.1, 4.1, 4.4.1, 4.4.2 and 4.4.5; RFC 5227): at the first moment from
+-- which on a timed row of the table fits, and not before.
 use Rattle.std.specs.Prelude.{◌≡◌, ℕ, Bool, true, false, ◌||◌, Option, Some, None}
 use Rattle.machine.specs.Moment.{is_due, moment_of}
 use Rattle.arp_acd.specs.Table as detection

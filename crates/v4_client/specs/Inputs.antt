@@ -18,19 +18,21 @@ use Rattle.v4_client.specs.Moments.{expiry}
 use Rattle.v4_client.specs.Saying.{release}
 use Rattle.v4_client.specs.Steps.{rests, goes_to, stops, to_init, rebooting, new_exchange, new_xid, rebinding}
 
--- A client stands on its kept lease where it is to and still may, and an ACK of this interface is known to have confirmed it.
+-- A client stands on its kept lease where it is to and still may, and an ACK of this interface is known to have
+-- confirmed it.
 abbrev pub stood : Turn4 → (may_stand : Bool) → Terms4 → Option Terms4
 stood turn may_stand terms =
     if turn.site.persistent && may_stand && is_some terms.origin then Some terms else None
 
--- The begin, with the terms of the kept lease: where there is one that isn't expired, and time to ask for it, REQUEST for
--- its address (RFC 2131, section 4.4.2). Else Init.
+-- The begin, with the terms of the kept lease: where there is one that isn't expired, and time to ask for it, REQUEST
+-- for its address (RFC 2131, section 4.4.2). Else Init.
 abbrev pub entered : Turn4 → (may_stand : Bool) → Option Terms4 → Step4
 entered turn may_stand None = to_init turn
 entered turn may_stand (Some terms) =
     if is_due (expiry terms) turn.at || (turn.site.reboot == 0)
     then to_init turn
-    else rebooting turn (new_exchange turn terms.net.ip) Four (turn.at + SECOND * turn.site.reboot) (stood turn may_stand terms)
+    else rebooting turn (new_exchange turn terms.net.ip) Four (turn.at + SECOND * turn.site.reboot)
+    (stood turn may_stand terms)
 
 -- At the first one alone the client may stand on its kept lease.
 abbrev pub begins : Turn4 → (may_stand : Bool) → Option Terms4 → Step4
@@ -42,7 +44,8 @@ begin_row turn may_stand kept Off = begins turn may_stand kept
 begin_row turn may_stand kept (Init due) = rests turn (Init due)
 begin_row turn may_stand kept (Selecting xid began secs backoff due) = rests turn (Selecting xid began secs backoff due)
 begin_row turn may_stand kept (Requesting exchange secs backoff due) = rests turn (Requesting exchange secs backoff due)
-begin_row turn may_stand kept (Rebooting exchange backoff end due stands) = rests turn (Rebooting exchange backoff end due stands)
+begin_row turn may_stand kept (Rebooting exchange backoff end due stands) =
+    rests turn (Rebooting exchange backoff end due stands)
 begin_row turn may_stand kept (Checking xid terms origin acd stands) = rests turn (Checking xid terms origin acd stands)
 begin_row turn may_stand kept (Waiting due) = rests turn (Waiting due)
 begin_row turn may_stand kept (Bound xid terms acd) = rests turn (Bound xid terms acd)
@@ -82,14 +85,15 @@ release_row turn tell (Bound xid terms acd) = released turn tell terms
 release_row turn tell (Renewing exchange terms acd due) = released turn tell terms
 release_row turn tell (Rebinding exchange terms acd due) = released turn tell terms
 
--- A lease in Bound or Renewing is rebound at once, and a client that is off begins; it was released before, so that it stands
--- on no lease.
+-- A lease in Bound or Renewing is rebound at once, and a client that is off begins; it was released before, so that it
+-- stands on no lease.
 abbrev pub rebind_row : Turn4 → Option Terms4 → State4 → Step4
 rebind_row turn kept Off = begins turn false kept
 rebind_row turn kept (Init due) = rests turn (Init due)
 rebind_row turn kept (Selecting xid began secs backoff due) = rests turn (Selecting xid began secs backoff due)
 rebind_row turn kept (Requesting exchange secs backoff due) = rests turn (Requesting exchange secs backoff due)
-rebind_row turn kept (Rebooting exchange backoff end due stands) = rests turn (Rebooting exchange backoff end due stands)
+rebind_row turn kept (Rebooting exchange backoff end due stands) =
+    rests turn (Rebooting exchange backoff end due stands)
 rebind_row turn kept (Checking xid terms origin acd stands) = rests turn (Checking xid terms origin acd stands)
 rebind_row turn kept (Waiting due) = rests turn (Waiting due)
 rebind_row turn kept (Bound xid terms acd) = rebinding turn (new_exchange turn terms.net.ip) terms acd

@@ -85,8 +85,8 @@ pub record Stands (start : ClientContent) (event : Event4) (earlier : List Event
   pub goes_on : GoesOn event
   pub unbound : bound_terms (client_after start (event ∷ earlier)).state ≡ None
 
--- It stands on the lease with which it was made, which an ACK of this interface has confirmed, as it is to, and did nothing else
--- since then than to ask for it and to check what it was granted.
+-- It stands on the lease with which it was made, which an ACK of this interface has confirmed, as it is to, and did
+-- nothing else since then than to ask for it and to check what it was granted.
 pub record StandsOnKept (start : ClientContent) (past : List Event4) (terms : Terms4) : Type 0 where
   pub persistent : start.settings.site.persistent ≡ true
   pub kept : kept_terms start ≡ Some terms

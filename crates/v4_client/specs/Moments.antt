@@ -35,7 +35,8 @@ first_delay site salt = if site.nodelay then 1 else LEAST_DELAY + draw_of salt s
 abbrev pub secs_since : (began at : ℕ) → ℕ
 secs_since began at = min ((at - began) / SECOND) SECS_LIMIT
 
--- All times of a lease count from the first REQUEST of its exchange (section 4.4.1); those of an infinite one never come.
+-- All times of a lease count from the first REQUEST of its exchange (section 4.4.1); those of an infinite one never
+-- come.
 abbrev pub moment_in : Terms4 → (seconds : ℕ) → Option ℕ
 moment_in terms seconds = if terms.lease == INFINITE_LEASE then None else Some (terms.first + SECOND * seconds)
 

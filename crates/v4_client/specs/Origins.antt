@@ -11,7 +11,8 @@ use Rattle.v4_client.specs.Messages.{Arrival}
 use Rattle.v4_client.specs.Sound.{IsSound}
 
 -- the event is an acceptable ACK that granted the lease, and this interface and this moment are its origin
-pub record Confirms (start : ClientContent) (lease : LeaseContent) (event : Event4) (earlier : List Event4) : Type 0 where
+pub record Confirms (start : ClientContent) (lease : LeaseContent) (event : Event4)
+    (earlier : List Event4) : Type 0 where
   pub arrival : Arrival
   pub salt : ℕ
   pub heard : event ≡ Heard arrival salt

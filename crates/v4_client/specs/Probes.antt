@@ -35,10 +35,11 @@ abbrev pub probes_since : (start : ClientContent) → Ip4 → List Event4 → �
 probes_since start address [] = 0
 probes_since start address (event ∷ past) =
     let c : ClientContent = client_after start past in
-    counted (is_anew event (answer_in event c)) (is_probe_for address (step_of event c).arp) (probes_since start address past)
+    counted (is_anew event (answer_in event c)) (is_probe_for address (step_of event c).arp)
+    (probes_since start address past)
 
--- Where addresses are probed, the event from which on a client is bound to a lease comes after three probes for its address. All of them
--- were said since the ACK that granted it, and since the last send that failed.
+-- Where addresses are probed, the event from which on a client is bound to a lease comes after three probes for its
+-- address. All of them were said since the ACK that granted it, and since the last send that failed.
 abbrev pub ProbesFirst : Type 0
 ProbesFirst = (start : ClientContent) (past : List Event4) (event : Event4) (terms : Terms4) → start.state ≡ Off
     → start.settings.site.noarp ≡ false → bound_terms (client_after start past).state ≡ None

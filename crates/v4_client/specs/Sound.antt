@@ -1,4 +1,5 @@
--- What holds of every client: its leases are within the bounds of their texts, and the lease that it holds is the kept one.
+-- What holds of every client: its leases are within the bounds of their texts, and the lease that it holds is the kept
+-- one.
 use Rattle.std.specs.Prelude.{◌≡◌, ℕ, ◌≤◌, ◌⊎◌, true, Option, Some, None, option_map, IfSome}
 use Rattle.net_types.specs.Moments.{IsMoment}
 use Rattle.net_types.specs.NameText.{FitsName}
@@ -28,7 +29,8 @@ pub record FitsRenewal (exchange : Exchange4) (terms : Terms4) : Type 0 where
   pub holds : FitsTerms terms
   pub same : exchange.address.number ≡ terms.net.ip.number
 
--- its REQUEST is said again by the moment at which that ends: T2 while the lease is renewed, its expiry while it is rebound
+-- its REQUEST is said again by the moment at which that ends: T2 while the lease is renewed, its expiry while it is
+-- rebound
 pub record FitsRenewing (exchange : Exchange4) (terms : Terms4) (end : Option ℕ) (due : ℕ) : Type 0 where
   pub renewal : FitsRenewal exchange terms
   pub wakes : IfSome end (λ last. due ≤ last)

@@ -22,7 +22,8 @@ use Rattle.v4_client.specs.Saying.{discover, request, renewing_request, rebindin
 
 -- the client stands so, and nothing is said
 abbrev pub goes_to : State4 → (last : Option ℕ) → Step4
-goes_to state last = record { state = state; last = last; keep = Stays; say = None; arp = None; news = news.Nothing; spends = false }
+goes_to state last =
+    record { state = state; last = last; keep = Stays; say = None; arp = None; news = news.Nothing; spends = false }
 
 abbrev pub rests : Turn4 → State4 → Step4
 rests turn state = goes_to state turn.last
@@ -53,15 +54,18 @@ discovers turn = selecting turn (new_xid turn) turn.at Four
 -- REQUEST for the offered address; Requesting, due after the wait
 abbrev pub requesting : Turn4 → Exchange4 → (secs : ℕ) → Backoff → Step4
 requesting turn exchange secs backoff =
-    record (goes_to (Requesting exchange secs backoff (turn.at + wait turn.site turn.salt backoff)) (Some exchange.xid)) {
+    record
+    (goes_to (Requesting exchange secs backoff (turn.at + wait turn.site turn.salt backoff)) (Some exchange.xid)) {
       say = Some (request turn.site exchange secs);
     }
 
--- REQUEST for the address of the kept lease, on which the client stands or not; Rebooting, due after the wait, and not after
--- its end
+-- REQUEST for the address of the kept lease, on which the client stands or not; Rebooting, due after the wait, and not
+-- after its end
 abbrev pub rebooting : Turn4 → Exchange4 → Backoff → (end : ℕ) → (stands : Option Terms4) → Step4
 rebooting turn exchange backoff end stands =
-    record (goes_to (Rebooting exchange backoff end (min end (turn.at + wait turn.site turn.salt backoff)) stands) (Some exchange.xid)) {
+    record
+    (goes_to (Rebooting exchange backoff end (min end (turn.at + wait turn.site turn.salt backoff)) stands)
+    (Some exchange.xid)) {
       say = Some (request turn.site exchange 0);
     }
 

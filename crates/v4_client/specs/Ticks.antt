@@ -86,8 +86,8 @@ tick_row turn (Selecting xid began secs backoff due) = selecting turn xid began 
 tick_row turn (Requesting exchange secs backoff due) = requesting_tick turn exchange secs backoff
 -- Rebooting: the kept lease ends on which the client stands; else REQUEST again; at its end a new xid and DISCOVER.
 tick_row turn (Rebooting exchange backoff end due stands) = rebooting_tick turn exchange backoff end stands
--- Checking: the kept lease ends on which the client stands, and the check goes on; the lease ends before it is held; else what
--- conflict detection says.
+-- Checking: the kept lease ends on which the client stands, and the check goes on; the lease ends before it is held;
+-- else what conflict detection says.
 tick_row turn (Checking xid terms origin acd stands) = checking_tick turn xid terms origin acd stands
 -- A held lease: its expiry, then T2, then T1, then the REQUEST again; else what conflict detection says.
 tick_row turn (Bound xid terms acd) = bound_tick turn xid terms acd

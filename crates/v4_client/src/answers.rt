@@ -55,8 +55,10 @@ fn answering(set: &Set4, xid: u32, arrival: &Arrival4) -> Option<Ip4>
 
 /// What the OFFER of a server says.
 fn offer_of(alloc: Global, set: &Set4, arrival: &Arrival4, server: Ip4) -> Result<Answer4, NoMemory>
-    ensures memory { OnErr result (has_long_value (arrival_of arrival.now).message.instances (settings_content set.now).required ≡ true) }
-    ensures answer { IfOk result (λ answer. answer ≡ offer_of (settings_content set.now) (arrival_of arrival.now) server MessageKind.Offer) }
+    ensures memory { OnErr result
+        (has_long_value (arrival_of arrival.now).message.instances (settings_content set.now).required ≡ true) }
+    ensures answer { IfOk result
+        (λ answer. answer ≡ offer_of (settings_content set.now) (arrival_of arrival.now) server MessageKind.Offer) }
 {
     let message = &arrival.message;
     if u32_at(&message.options, code::LEASE_TIME).is_none() {
@@ -76,8 +78,10 @@ fn offer_of(alloc: Global, set: &Set4, arrival: &Arrival4, server: Ip4) -> Resul
 
 /// What the message of a server says to a client that waits for an offer.
 fn offer_by(alloc: Global, set: &Set4, arrival: &Arrival4, server: Ip4) -> Result<Answer4, NoMemory>
-    ensures memory { OnErr result (has_long_value (arrival_of arrival.now).message.instances (settings_content set.now).required ≡ true) }
-    ensures answer { IfOk result (λ answer. answer ≡ offer_by (settings_content set.now) (arrival_of arrival.now) (Some server)) }
+    ensures memory { OnErr result
+        (has_long_value (arrival_of arrival.now).message.instances (settings_content set.now).required ≡ true) }
+    ensures answer { IfOk result
+        (λ answer. answer ≡ offer_by (settings_content set.now) (arrival_of arrival.now) (Some server)) }
 {
     match arrival.message.kind {
         MessageKind::Offer => offer_of(alloc, set, arrival, server),
@@ -118,8 +122,11 @@ fn ack_by(
     server: Ip4,
 ) -> Result<Answer4, NoMemory>
     requires { IsMoment exchange.first }
-    ensures memory { OnErr result (has_long_value (arrival_of arrival.now).message.instances (settings_content set.now).required ≡ true) }
-    ensures answer { IfOk result (λ answer. answer ≡ reply_of (settings_content set.now) exchange (arrival_of arrival.now) server MessageKind.Ack) }
+    ensures memory { OnErr result
+        (has_long_value (arrival_of arrival.now).message.instances (settings_content set.now).required ≡ true) }
+    ensures answer { IfOk result
+        (λ answer. answer
+        ≡ reply_of (settings_content set.now) exchange (arrival_of arrival.now) server MessageKind.Ack) }
 {
     let message = &arrival.message;
     let Some(lease) = u32_at(&message.options, code::LEASE_TIME) else {
@@ -150,8 +157,10 @@ fn reply_by(
     server: Ip4,
 ) -> Result<Answer4, NoMemory>
     requires { IsMoment exchange.first }
-    ensures memory { OnErr result (has_long_value (arrival_of arrival.now).message.instances (settings_content set.now).required ≡ true) }
-    ensures answer { IfOk result (λ answer. answer ≡ reply_by (settings_content set.now) exchange (arrival_of arrival.now) (Some server)) }
+    ensures memory { OnErr result
+        (has_long_value (arrival_of arrival.now).message.instances (settings_content set.now).required ≡ true) }
+    ensures answer { IfOk result
+        (λ answer. answer ≡ reply_by (settings_content set.now) exchange (arrival_of arrival.now) (Some server)) }
 {
     if !is_chosen(exchange.server, server) {
         return Ok(Answer4::Nothing);
@@ -176,9 +185,12 @@ fn reply_in(
     exchange: Exchange4,
 ) -> Result<Answer4, NoMemory>
     requires { IsMoment exchange.first }
-    ensures memory { OnErr result (has_long_value (arrival_of arrival.now).message.instances (settings_content set.now).required ≡ true) }
-    ensures awaited { OnErr result (is_awaited_by (settings_content set.now) (arrival_of arrival.now) (Some exchange.xid) ≡ true) }
-    ensures answer { IfOk result (λ answer. answer ≡ reply_in (settings_content set.now) (arrival_of arrival.now) exchange) }
+    ensures memory { OnErr result
+        (has_long_value (arrival_of arrival.now).message.instances (settings_content set.now).required ≡ true) }
+    ensures awaited { OnErr result
+        (is_awaited_by (settings_content set.now) (arrival_of arrival.now) (Some exchange.xid) ≡ true) }
+    ensures answer { IfOk result
+        (λ answer. answer ≡ reply_in (settings_content set.now) (arrival_of arrival.now) exchange) }
 {
     match answering(set, exchange.xid, arrival) {
         Some(server) => reply_by(alloc, set, exchange, arrival, server),
@@ -186,8 +198,8 @@ fn reply_in(
     }
 }
 
-/// What the message says to a client in this state. Memory is wanted only where it is an answer that is waited for, and only
-/// for the value of an option that it must have, where that is longer than `VALUE_LIMIT`.
+/// What the message says to a client in this state. Memory is wanted only where it is an answer that is waited for, and
+/// only for the value of an option that it must have, where that is longer than `VALUE_LIMIT`.
 pub(crate) fn answer_of(
     alloc: Global,
     set: &Set4,
@@ -195,7 +207,8 @@ pub(crate) fn answer_of(
     state: State4,
 ) -> Result<Answer4, NoMemory>
     requires { FitsState state }
-    ensures memory { OnErr result (has_long_value (arrival_of arrival.now).message.instances (settings_content set.now).required ≡ true) }
+    ensures memory { OnErr result
+        (has_long_value (arrival_of arrival.now).message.instances (settings_content set.now).required ≡ true) }
     ensures awaited { OnErr result (is_awaited (settings_content set.now) (arrival_of arrival.now) state ≡ true) }
     ensures answer { IfOk result (λ answer. answer ≡ answer_of (settings_content set.now) (arrival_of arrival.now) state) }
 {

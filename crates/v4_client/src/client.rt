@@ -72,7 +72,8 @@ impl Model for Client4 {
 
     ghost view = { λ c. client_content c.set c.last c.state c.may_stand c.leases.kept c.leases.fresh.items };
 
-    ghost invariant = { λ c. IsSound (client_content c.set c.last c.state c.may_stand c.leases.kept c.leases.fresh.items) };
+    ghost invariant = { λ c. IsSound
+        (client_content c.set c.last c.state c.may_stand c.leases.kept c.leases.fresh.items) };
 }
 
 impl Client4 {
@@ -130,7 +131,8 @@ impl Client4 {
 
     /// What the message says in the state.
     fn answer_to(&self, arrival: &Arrival4) -> Result<Answer4, NoMemory>
-        ensures memory { OnErr result (has_long_value (arrival_of arrival.now).message.instances self.now.settings.required ≡ true) }
+        ensures memory { OnErr result
+            (has_long_value (arrival_of arrival.now).message.instances self.now.settings.required ≡ true) }
         ensures awaited { OnErr result (is_awaited self.now.settings (arrival_of arrival.now) self.now.state ≡ true) }
         ensures answer { IfOk result (λ answer. answer ≡ answer_to (arrival_of arrival.now) self.now) }
     {
@@ -140,7 +142,10 @@ impl Client4 {
     /// Takes the values that come with an acceptable ACK.
     fn bring(&mut self, answer: Answer4, options: &OptionView) -> Result<(), NoMemory>
         ensures memory { OnErr result (is_grant answer ≡ true) }
-        ensures values { OnOk result (self.new ≡ with_values answer (kept_values self.old.settings.refused (view_instances options.now)) self.old) }
+        ensures values { OnOk result
+            (self.new
+            ≡ with_values answer
+            (kept_values self.old.settings.refused (view_instances options.now)) self.old) }
     {
         match answer {
             Answer4::Ack(_) => {
@@ -202,13 +207,16 @@ impl Machine for Client4 {
     }
 }
 
-/// Hears a message whose frame came from the hardware address `from`. Memory is wanted only for an answer that is waited
-/// for, and only where it is an ACK that is taken, or where an option that it must have is longer than `VALUE_LIMIT`; what is
-/// not acceptable changes nothing.
+/// Hears a message whose frame came from the hardware address `from`. Memory is wanted only for an answer that is
+/// waited for, and only where it is an ACK that is taken, or where an option that it must have is longer than
+/// `VALUE_LIMIT`; what is not acceptable changes nothing.
 pub fn heard4(c: &mut Client4, msg: &Msg4, from: Mac, at: u64, salt: u64) -> Result<Out4, NoMemory>
-    ensures memory { OnErr result (may_want_memory c.old.settings (arrival_from from (moment_of at) msg.now) c.old.state ≡ true) }
-    ensures awaited { OnErr result (is_awaited c.old.settings (arrival_from from (moment_of at) msg.now) c.old.state ≡ true) }
-    ensures step { IfOk result (λ out. Hears salt (arrival_from from (moment_of at) msg.now) c.old c.new (out_content out)) }
+    ensures memory { OnErr result
+        (may_want_memory c.old.settings (arrival_from from (moment_of at) msg.now) c.old.state ≡ true) }
+    ensures awaited { OnErr result
+        (is_awaited c.old.settings (arrival_from from (moment_of at) msg.now) c.old.state ≡ true) }
+    ensures step { IfOk result
+        (λ out. Hears salt (arrival_from from (moment_of at) msg.now) c.old c.new (out_content out)) }
 {
     let arrival = Arrival4 {
         message: *msg,
@@ -230,7 +238,8 @@ pub fn heard_arp4(
     own: &[Mac],
 ) -> Result<Out4, NoMemory>
     ensures memory { OnErr result (takes_room (arp_step own.now (moment_of at) salt arp.now c.old) c.old ≡ true) }
-    ensures step { IfOk result (λ out. IsStep4 (arp_step own.now (moment_of at) salt arp.now c.old) c.old c.new (out_content out)) }
+    ensures step { IfOk result
+        (λ out. IsStep4 (arp_step own.now (moment_of at) salt arp.now c.old) c.old c.new (out_content out)) }
 {
     let turn = c.turn(clamp_moment(at), salt);
     let step = arp_row(own, turn, arp, c.state);
@@ -248,7 +257,8 @@ pub fn unsent4(c: &mut Client4, at: u64, salt: u64)
 /// The carrier comes or goes.
 pub fn carrier4(c: &mut Client4, carrier: Carrier, at: u64, salt: u64) -> Result<Out4, NoMemory>
     ensures memory { OnErr result (takes_room (carrier_step carrier (moment_of at) salt c.old) c.old ≡ true) }
-    ensures step { IfOk result (λ out. IsStep4 (carrier_step carrier (moment_of at) salt c.old) c.old c.new (out_content out)) }
+    ensures step { IfOk result
+        (λ out. IsStep4 (carrier_step carrier (moment_of at) salt c.old) c.old c.new (out_content out)) }
 {
     let turn = c.turn(clamp_moment(at), salt);
     let step = match carrier {
@@ -261,7 +271,8 @@ pub fn carrier4(c: &mut Client4, carrier: Carrier, at: u64, salt: u64) -> Result
 /// The client stops; where a lease is held, `tell` says whether its server is told.
 pub fn release4(c: &mut Client4, tell: Tell, at: u64, salt: u64) -> Result<Out4, NoMemory>
     ensures memory { OnErr result (takes_room (release_step tell (moment_of at) salt c.old) c.old ≡ true) }
-    ensures step { IfOk result (λ out. IsStep4 (release_step tell (moment_of at) salt c.old) c.old c.new (out_content out)) }
+    ensures step { IfOk result
+        (λ out. IsStep4 (release_step tell (moment_of at) salt c.old) c.old c.new (out_content out)) }
 {
     let turn = c.turn(clamp_moment(at), salt);
     let step = release_row(turn, tell, c.state);

@@ -62,7 +62,8 @@ fn old_copied(
     kept: &Option<Lease4>,
 ) -> Result<Option<Lease4>, NoMemory>
     ensures memory { OnErr result ((is_of_held news && is_held state) ≡ true) }
-    ensures old { IfOk result (λ old. option_map lease_content old ≡ old_of news (is_held state) (option_map lease_content kept.now)) }
+    ensures old { IfOk result
+        (λ old. option_map lease_content old ≡ old_of news (is_held state) (option_map lease_content kept.now)) }
 {
     if !(is_of_held(news) && is_held(state)) {
         return Ok(None);
@@ -74,8 +75,8 @@ fn old_copied(
 }
 
 impl Leases4 {
-    /// What becomes of the leases in a step from the state. Answers the lease that was held before, where the news is of it.
-    /// Memory is wanted for a lease that stays kept and is told alone. Without it nothing changes.
+    /// What becomes of the leases in a step from the state. Answers the lease that was held before, where the news is
+    /// of it. Memory is wanted for a lease that stays kept and is told alone. Without it nothing changes.
     pub(crate) fn keep(
         &mut self,
         alloc: Global,
@@ -83,9 +84,11 @@ impl Leases4 {
         state: State4,
         step: &Step4,
     ) -> Result<Option<Lease4>, NoMemory>
-        ensures kept { OnOk result (kept_in self.new ≡ kept_after step.now.keep name (fresh_in self.old) (kept_in self.old)) }
+        ensures kept { OnOk result
+            (kept_in self.new ≡ kept_after step.now.keep name (fresh_in self.old) (kept_in self.old)) }
         ensures fresh { OnOk result (fresh_in self.new ≡ fresh_after step.now.keep (fresh_in self.old)) }
-        ensures old { IfOk result (λ old. option_map lease_content old ≡ old_of step.now.news (is_held state) (kept_in self.old)) }
+        ensures old { IfOk result
+            (λ old. option_map lease_content old ≡ old_of step.now.news (is_held state) (kept_in self.old)) }
         ensures err { OnErr result (self.new ≡ self.old) }
         ensures memory { OnErr result (is_copied step.now (is_held state) ≡ true) }
     {

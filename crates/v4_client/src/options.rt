@@ -40,8 +40,8 @@ fn joined_at(view: &OptionView, code: u8) -> Option<ArrayVec<u8, VALUE_LIMIT>>
     Some(bytes)
 }
 
-/// Whether an option is there: it has an instance, and its value the form of its code. The value of one instance is judged in
-/// place; that of several is joined for it, and only where it is longer than `VALUE_LIMIT` in memory.
+/// Whether an option is there: it has an instance, and its value the form of its code. The value of one instance is
+/// judged in place; that of several is joined for it, and only where it is longer than `VALUE_LIMIT` in memory.
 fn is_there(alloc: Global, view: &OptionView, code: u8) -> Result<bool, NoMemory>
     ensures memory { OnErr result (is_long code (view_instances view.now) ≡ true) }
     ensures there { IfOk result (λ there. there ≡ is_there (view_instances view.now) code) }
@@ -238,7 +238,8 @@ fn push_kept(
     refused: &[u8],
 ) -> Result<(), NoMemory>
     requires { index.now ≡ view_instances view.now }
-    ensures { OnOk result (values_content kept.new.items ≡ values_content kept.old.items ++ kept_of refused.now index.now code) }
+    ensures { OnOk result
+        (values_content kept.new.items ≡ values_content kept.old.items ++ kept_of refused.now index.now code) }
 {
     if is_among(refused, code) {
         return Ok(());

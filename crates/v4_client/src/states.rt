@@ -30,8 +30,8 @@ pub enum Origin4 {
     Rebooted,
 }
 
-/// Where a client stands (RFC 2131, section 4.4). Moments are in milliseconds since 1970; at `due` the message of the state
-/// is said, or said again.
+/// Where a client stands (RFC 2131, section 4.4). Moments are in milliseconds since 1970; at `due` the message of the
+/// state is said, or said again.
 #[derive(Clone, Copy, PartialEq, Eq)]
 pub enum State4 {
     /// Nothing is done: there is no carrier, or the client was stopped.
@@ -55,8 +55,8 @@ pub enum State4 {
         backoff: Backoff,
         due: u64,
     },
-    /// The address of the kept lease is asked for, until `end`. `stands` are the terms of the kept lease where it is held
-    /// meanwhile.
+    /// The address of the kept lease is asked for, until `end`. `stands` are the terms of the kept lease where it is
+    /// held meanwhile.
     Rebooting {
         exchange: Exchange4,
         backoff: Backoff,
@@ -188,8 +188,8 @@ pub enum Carrier {
     Down,
 }
 
-/// What a row of the table looks at beside the state: the settings, the transaction id of the last exchange, the moment, and
-/// the salt of the turn.
+/// What a row of the table looks at beside the state: the settings, the transaction id of the last exchange, the
+/// moment, and the salt of the turn.
 #[derive(Clone, Copy, PartialEq, Eq)]
 pub struct Turn4 {
     pub site: Site4,

@@ -29,7 +29,9 @@ module _ (from to : Ip4) (payload : List ℕ) where
   unfolding udp4_frame_text udp4_text
   frame_cells f t from_fits to_fits = record {
     payload_is = refl;
-    ends_are = λ i. between (six f) (six t) (record { number = from_be_bytes-to_be_bytes_4 from.number from_fits i }) (record { number = from_be_bytes-to_be_bytes_4 to.number to_fits i });
+    ends_are =
+        λ i. between (six f) (six t) (record { number = from_be_bytes-to_be_bytes_4 from.number from_fits i })
+        (record { number = from_be_bytes-to_be_bytes_4 to.number to_fits i });
   }
 
   is_frame : (f t : List ℕ) → length f ≡ 6 → length t ≡ 6 → from.number < 2 ^ 32 → to.number < 2 ^ 32 → IsFrame f t
@@ -64,7 +66,8 @@ if_same : (ask : AskContent) (frame : List ℕ) (s sent : Sent4) (same : Bool) �
 if_same ask frame s sent true is e = is refl ∙ ap (frame_of ask) (some_is s sent e)
 if_same ask frame s sent false is e = absurd cc
 
-is_frame_of : (ask : AskContent) (frame : List ℕ) (seen : Option Sent4) (sent : Sent4) → option_and_then (if_spelled ask frame) seen ≡ Some sent → frame ≡ frame_of ask sent
+is_frame_of : (ask : AskContent) (frame : List ℕ) (seen : Option Sent4) (sent : Sent4) → option_and_then (if_spelled ask frame) seen ≡ Some sent
+    → frame ≡ frame_of ask sent
 is_frame_of ask frame None sent e = absurd cc
 is_frame_of ask frame (Some s) sent e = if_same ask frame s sent (bytes_eq frame (frame_of ask s)) (bytes_eq-Decides frame (frame_of ask s)).0 e
 

@@ -53,7 +53,8 @@ message_back ask sent ask_fits fits =
     let beside = asked_beside said.kind ask in
     let are : message_instances message ≡ said_options said ask = said_is_read said ask ask_fits (fixed_len said fits.mac) in
     let kind_is : byte_of 53 (message_instances message) ≡ Some kind =
-    ap (byte_of 53) are ∙ ap (λ (ps : List (List ℕ)). only_byte (flat_map (λ piece. piece) ps)) (one_kind kind ask.client_id more beside said.asked said.server) in
+    ap (byte_of 53) are
+    ∙ ap (λ (ps : List (List ℕ)). only_byte (flat_map (λ piece. piece) ps)) (one_kind kind ask.client_id more beside said.asked said.server) in
     let asked_is : address_at 50 (message_instances message) ≡ said.asked =
     ap (address_at 50) are ∙ asked_back kind ask.client_id more beside said.asked said.server fits.asked in
     let server_is : address_at 54 (message_instances message) ≡ said.server =

@@ -13,7 +13,8 @@ use Rattle.v4_frames.specs.Heard.{same_mac}
 -- from no address to everyone, before an address is held
 abbrev pub has_no_address : Sent4 → Bool
 has_no_address sent =
-    (sent.said.ciaddr.number == 0) && (sent.ends.from.number == 0) && (sent.ends.to.number == 0xffffffff) && same_mac sent.ends.to_mac broadcast
+    (sent.said.ciaddr.number == 0) && (sent.ends.from.number == 0) && (sent.ends.to.number == 0xffffffff)
+    && same_mac sent.ends.to_mac broadcast
 
 -- from the address that is held
 abbrev pub has_address : Sent4 → Bool
@@ -35,7 +36,8 @@ abbrev pub is_our_request : Speaker → Sent4 → (asked server : Option Ip4) �
 -- selecting: an offer is taken
 is_our_request speaker sent (Some asked) (Some server) = has_no_address sent && asks_for_answers speaker sent.said
 -- init-reboot: an earlier address is asked for again
-is_our_request speaker sent (Some asked) None = has_no_address sent && asks_for_answers speaker sent.said && (sent.said.secs == 0)
+is_our_request speaker sent (Some asked) None =
+    has_no_address sent && asks_for_answers speaker sent.said && (sent.said.secs == 0)
 -- renewing, to the server, or rebinding, to everyone
 is_our_request speaker sent None None = has_address sent && is_plain sent.said
 is_our_request speaker sent None (Some server) = false
@@ -44,8 +46,12 @@ abbrev pub is_our_kind : Speaker → Sent4 → Kind4 → Bool
 is_our_kind speaker sent Discover =
     has_no_address sent && asks_for_answers speaker sent.said && is_none sent.said.asked && is_none sent.said.server
 is_our_kind speaker sent Request = is_our_request speaker sent sent.said.asked sent.said.server
-is_our_kind speaker sent Decline = has_no_address sent && is_plain sent.said && is_some sent.said.asked && is_some sent.said.server
-is_our_kind speaker sent Release = has_address sent && is_plain sent.said && is_none sent.said.asked && goes_to sent.said.server sent
+is_our_kind speaker sent Decline =
+    has_no_address sent && is_plain sent.said && is_some sent.said.asked && is_some sent.said.server
+is_our_kind speaker sent Release =
+    has_address sent && is_plain sent.said && is_none sent.said.asked && goes_to sent.said.server sent
 
 abbrev pub is_ours : Speaker → Sent4 → Bool
-is_ours speaker sent = same_mac sent.said.mac speaker.mac && same_mac sent.ends.from_mac speaker.mac && is_our_kind speaker sent sent.said.kind
+is_ours speaker sent =
+    same_mac sent.said.mac speaker.mac && same_mac sent.ends.from_mac speaker.mac
+    && is_our_kind speaker sent sent.said.kind

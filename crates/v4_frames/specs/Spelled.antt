@@ -50,7 +50,13 @@ said_in message =
 
 -- the ends in the Ethernet header and in the IPv4 header behind its 14 bytes
 abbrev pub ends_in : (frame : List ℕ) → Ends4
-ends_in frame = record { from_mac = mac_field 6 frame; to_mac = mac_field 0 frame; from = ip4_field 26 frame; to = ip4_field 30 frame }
+ends_in frame =
+    record {
+      from_mac = mac_field 6 frame;
+      to_mac = mac_field 0 frame;
+      from = ip4_field 26 frame;
+      to = ip4_field 30 frame;
+    }
 
 -- what a frame seems to say, by its fields behind 42 bytes of headers
 unfoldable pub seen_in : (frame : List ℕ) → Option Sent4

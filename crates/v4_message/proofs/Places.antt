@@ -31,7 +31,8 @@ after_moved more at (suc k) (b ∷ rest) =
     ap (λ (n : ℕ). malformed_after n k rest) on ∙ after_moved more (suc at) k rest
 after_moved more at zero (b ∷ rest) =
     let on : suc (more + at) ≡ more + suc at = omega arith in
-    place_moved (front_of (b ∷ rest)) more at (malformed_after (suc at) (more_bytes (front_of (b ∷ rest)) rest) rest) (malformed_after (suc (more + at)) (more_bytes (front_of (b ∷ rest)) rest) rest)
+    place_moved (front_of (b ∷ rest)) more at (malformed_after (suc at) (more_bytes (front_of (b ∷ rest)) rest) rest)
+    (malformed_after (suc (more + at)) (more_bytes (front_of (b ∷ rest)) rest) rest)
     (ap (λ (n : ℕ). malformed_after n (more_bytes (front_of (b ∷ rest)) rest) rest) on ∙ after_moved more (suc at) (more_bytes (front_of (b ∷ rest)) rest) rest)
 
 -- a place counts from where its area begins
@@ -60,7 +61,8 @@ pub below : (area : List ℕ) → IfSome (malformed_in 0 area) (λ p. p < length
 unfolding malformed_in
 below area = after_below 0 0 area (length area) (omega arith)
 
-moved_where : (reads : Bool) (begins : ℕ) (area : List ℕ) → (if reads then malformed_in begins area else None) ≡ option_map (λ p. begins + p) (if reads then malformed_in 0 area else None)
+moved_where : (reads : Bool) (begins : ℕ) (area : List ℕ)
+    → (if reads then malformed_in begins area else None) ≡ option_map (λ p. begins + p) (if reads then malformed_in 0 area else None)
 moved_where true begins area = moved begins area
 moved_where false begins area = refl
 
@@ -114,21 +116,26 @@ same_place options place None None (Some p) ha hb hc e =
 same_place options place None None None ha hb hc e = absurd cc
 
 over_is : (begins : Begins) (overload : Overload) (options file sname : List ℕ) → malformed_over begins overload options file sname
-    ≡ first_of begins (malformed_in 0 options) (if reads_file overload then malformed_in 0 file else None) (if reads_sname overload then malformed_in 0 sname else None)
+    ≡ first_of begins (malformed_in 0 options) (if reads_file overload then malformed_in 0 file else None)
+    (if reads_sname overload then malformed_in 0 sname else None)
 over_is begins overload options file sname =
     rw (moved begins.options options, moved_where (reads_file overload) begins.file file, moved_where (reads_sname overload) begins.sname sname) refl
 
 module _ (overload : Overload) (options file sname : List ℕ) where
-  pub whole_message : malformed_over (laid (length options) (length file)) overload options file sname ≡ None → malformed_over areas_begin overload options file sname ≡ None
+  pub whole_message : malformed_over (laid (length options) (length file)) overload options file sname ≡ None
+      → malformed_over areas_begin overload options file sname ≡ None
   whole_message e =
       over_is areas_begin overload options file sname
       ∙ same_none (laid (length options) (length file)) areas_begin _ _ _ (sym (over_is (laid (length options) (length file)) overload options file sname) ∙ e)
 
-  pub malformed_message : (place : ℕ) → length file ≡ 128 → length sname ≡ 64 → malformed_over (laid (length options) (length file)) overload options file sname ≡ Some place
+  pub malformed_message : (place : ℕ) → length file ≡ 128 → length sname ≡ 64
+      → malformed_over (laid (length options) (length file)) overload options file sname ≡ Some place
       → (place < length options + 192) × (malformed_over areas_begin overload options file sname ≡ Some (place_in_message (length options) place))
   malformed_message place file_len sname_len e =
       let first = rw file_len at (sym (over_is (laid (length options) (length file)) overload options file sname) ∙ e) in
-      let same = same_place (length options) place (malformed_in 0 options) (if reads_file overload then malformed_in 0 file else None) (if reads_sname overload then malformed_in 0 sname else None)
+      let same =
+      same_place (length options) place (malformed_in 0 options) (if reads_file overload then malformed_in 0 file else None)
+      (if reads_sname overload then malformed_in 0 sname else None)
       (below options) (rw file_len at (below_where (reads_file overload) file)) (rw sname_len at (below_where (reads_sname overload) sname)) first in
       (same.0, over_is areas_begin overload options file sname ∙ same.1)
 

@@ -108,11 +108,13 @@ area_holds said ask fits fixed =
     area_instances (options_area (padded (message_text said ask))) (map option_part (said_options said ask)) (is_area said ask fits fixed)
     ∙ parts_instances (said_options said ask)
 
-not_overloaded : (said : Said4) (ask : AskContent) → AskFits ask → length (fixed_fields said) ≡ 240 → overload_in (options_area (padded (message_text said ask))) ≡ Neither
+not_overloaded : (said : Said4) (ask : AskContent) → AskFits ask → length (fixed_fields said) ≡ 240
+    → overload_in (options_area (padded (message_text said ask))) ≡ Neither
 unfolding overload_in
 not_overloaded said ask fits fixed = rw (area_holds said ask fits fixed, no_overload (said_options said ask) (plain_said said ask fits)) refl
 
-pub said_is_read : (said : Said4) (ask : AskContent) → AskFits ask → length (fixed_fields said) ≡ 240 → message_instances (padded (message_text said ask)) ≡ said_options said ask
+pub said_is_read : (said : Said4) (ask : AskContent) → AskFits ask → length (fixed_fields said) ≡ 240
+    → message_instances (padded (message_text said ask)) ≡ said_options said ask
 unfolding message_instances
 said_is_read said ask fits fixed =
     rw (not_overloaded said ask fits fixed, area_holds said ask fits fixed) (append-nil (said_options said ask ++ []) ∙ append-nil (said_options said ask))
@@ -120,4 +122,8 @@ said_is_read said ask fits fixed =
 pub said_is_whole : (said : Said4) (ask : AskContent) → AskFits ask → length (fixed_fields said) ≡ 240 → malformed_place (padded (message_text said ask)) ≡ None
 unfolding malformed_place
 said_is_whole said ask fits fixed =
-    rw (not_overloaded said ask fits fixed, area_whole 240 (options_area (padded (message_text said ask))) (map option_part (said_options said ask)) (is_area said ask fits fixed)) refl
+    rw (
+      not_overloaded said ask fits fixed,
+      area_whole 240 (options_area (padded (message_text said ask))) (map option_part (said_options said ask)) (is_area said ask fits fixed),
+    )
+    refl

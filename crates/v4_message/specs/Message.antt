@@ -38,7 +38,8 @@ message_instances message =
 -- the place in a message of its first malformed option
 unfoldable pub malformed_place : List ℕ → Option ℕ
 malformed_place message =
-    malformed_over areas_begin (overload_in (options_area message)) (options_area message) (file_area message) (sname_area message)
+    malformed_over areas_begin (overload_in (options_area message)) (options_area message) (file_area message)
+    (sname_area message)
 
 -- the type of a message: the value of option 53, where that is one byte, the number of a type
 abbrev pub kind_among : List Instance → Option MessageKind

@@ -103,7 +103,9 @@ fn place_of(options: usize, place: usize) -> usize
 /// The options of a message, or the place in it of the first malformed one.
 fn options_in<'a>(payload: &'a [u8]) -> Result<OptionView<'a>, Malformed>
     requires { 240 ≤ length payload.now }
-    ensures same { IfOk result (λ view. area_bytes view.areas ≡ (options_area payload.now, file_area payload.now, sname_area payload.now)) }
+    ensures same { IfOk result
+        (λ view. area_bytes view.areas
+        ≡ (options_area payload.now, file_area payload.now, sname_area payload.now)) }
     ensures overload { IfOk result (λ view. view.overload ≡ overload_in (options_area payload.now)) }
     ensures instances { IfOk result (λ view. view_instances view ≡ message_instances payload.now) }
     ensures whole { IfOk result (λ _. malformed_place payload.now ≡ None) }

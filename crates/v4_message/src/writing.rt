@@ -111,8 +111,8 @@ fn put_client_fields(message: &mut Vec<u8>, said: &Said4) -> Result<(), AllocErr
     message.extend_from_slice(&MAGIC_COOKIE)
 }
 
-/// Appends an option with a value of fewer than 256 bytes (RFC 2132, section 2). Where memory runs out, a part of it may stand there
-/// already.
+/// Appends an option with a value of fewer than 256 bytes (RFC 2132, section 2). Where memory runs out, a part of it
+/// may stand there already.
 pub fn put_option(message: &mut Vec<u8>, code: u8, value: &[u8]) -> Result<(), AllocError>
     requires { length value.now < 256 }
     ensures { OnOk result (message.new.items ≡ message.old.items ++ options_text ((code, value.now) ∷ [])) }
@@ -161,7 +161,8 @@ fn put_asked_for(message: &mut Vec<u8>, ask: &Ask4) -> Result<(), AllocError>
 /// The options of a message, in their order.
 fn put_options(message: &mut Vec<u8>, said: &Said4, ask: &Ask4) -> Result<(), AllocError>
     requires { AskFits (ask_content ask.now) }
-    ensures { OnOk result (message.new.items ≡ message.old.items ++ options_text (said_options said.now (ask_content ask.now))) }
+    ensures { OnOk result
+        (message.new.items ≡ message.old.items ++ options_text (said_options said.now (ask_content ask.now))) }
 {
     put_option(message, code::MESSAGE_TYPE, &[number_of_kind(said.kind)])?;
     put_option(message, code::CLIENT_IDENTIFIER, &ask.client_id)?;

@@ -17,7 +17,8 @@ is_lt a b h = grind arith
 
 option_front : (code : ℕ) (value rest : List ℕ) → code ≢ 0 → code ≢ 255 → front_of (code ∷ length value ∷ (value ++ rest)) ≡ Whole (length value)
 unfolding front_of
-option_front code value rest zero_ne end_ne = rw (not_eq code 0 zero_ne, not_eq code 255 end_ne, le-ltb (suc (length (value ++ rest))) (length value + 1) (omega (arith, length-append value rest))) refl
+option_front code value rest zero_ne end_ne =
+    rw (not_eq code 0 zero_ne, not_eq code 255 end_ne, le-ltb (suc (length (value ++ rest))) (length value + 1) (omega (arith, length-append value rest))) refl
 
 pad_front : (rest : List ℕ) → front_of (0 ∷ rest) ≡ Pad
 unfolding front_of
@@ -49,7 +50,8 @@ text_instances (option code value ∷ parts) rest fit =
     let more = area_text parts ++ rest in
     ap instances_in (part_split (option code value) parts rest)
     ∙ instances_by (code ∷ length value ∷ (value ++ more)) (Whole (length value)) (option_front code value more fit.0.0 fit.0.1)
-    ∙ rw (take_at value more (length value) refl, drop_at value more (length value) refl) (ap (λ (is : List Instance). (code, value) ∷ is) (text_instances parts rest fit.1))
+    ∙ rw (take_at value more (length value) refl, drop_at value more (length value) refl)
+    (ap (λ (is : List Instance). (code, value) ∷ is) (text_instances parts rest fit.1))
 
 pub text_malformed : (at : ℕ) (parts : List Part) (rest : List ℕ) → AllByRecursion FitsPart parts
     → malformed_in at (area_text parts ++ rest) ≡ malformed_in (at + length (area_text parts)) rest
@@ -61,7 +63,8 @@ text_malformed at (padding ∷ parts) rest fit =
     ∙ ap (λ (n : ℕ). malformed_in n rest) (omega arith)
 text_malformed at (option code value ∷ parts) rest fit =
     let more = area_text parts ++ rest in
-    let places : at + (2 + length value) + length (area_text parts) ≡ at + length (area_text (option code value ∷ parts)) = omega (arith, length-append value (area_text parts)) in
+    let places : at + (2 + length value) + length (area_text parts) ≡ at + length (area_text (option code value ∷ parts)) =
+    omega (arith, length-append value (area_text parts)) in
     ap (malformed_in at) (part_split (option code value) parts rest)
     ∙ malformed_by at (code ∷ length value ∷ (value ++ more)) (Whole (length value)) (option_front code value more fit.0.0 fit.0.1)
     ∙ rw (drop_at value more (length value) refl) (text_malformed (at + (2 + length value)) parts rest fit.1)

@@ -31,14 +31,16 @@ module _ (only : Option ℕ) (left next : List (List ℕ)) (piece : List ℕ) (t
   pub nothing_more : length piece ≡ 0 → only_byte (option_to_list only ++ end_to_end next) ≡ total
   nothing_more e = empty piece e with_piece
     where
-      empty : (p : List ℕ) → length p ≡ 0 → only_byte (option_to_list only ++ (p ++ end_to_end next)) ≡ total → only_byte (option_to_list only ++ end_to_end next) ≡ total
+      empty : (p : List ℕ) → length p ≡ 0 → only_byte (option_to_list only ++ (p ++ end_to_end next)) ≡ total
+          → only_byte (option_to_list only ++ end_to_end next) ≡ total
       empty [] e h = h
       empty (b ∷ p) e h = absurd (omega arith)
 
   pub one_more : is_some only ≡ false → 0 < length piece → length piece ≤ 1 → only_byte (get_or piece 0 0 ∷ end_to_end next) ≡ total
   one_more e low high = one only piece e low high with_piece
     where
-      one : (o : Option ℕ) (p : List ℕ) → is_some o ≡ false → 0 < length p → length p ≤ 1 → only_byte (option_to_list o ++ (p ++ end_to_end next)) ≡ total → only_byte (get_or p 0 0 ∷ end_to_end next) ≡ total
+      one : (o : Option ℕ) (p : List ℕ) → is_some o ≡ false → 0 < length p → length p ≤ 1 → only_byte (option_to_list o ++ (p ++ end_to_end next)) ≡ total
+          → only_byte (get_or p 0 0 ∷ end_to_end next) ≡ total
       one (Some b) p e low high h = absurd cc
       one None [] e low high h = absurd (omega arith)
       one None (b ∷ []) e low high h = h

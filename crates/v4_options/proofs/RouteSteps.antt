@@ -21,7 +21,8 @@ too_short [] some short = absurd (omega arith)
 too_short (width ∷ rest) some short = let no : has_route width rest ≡ false = grind (arith) in rw no refl
 
 pub one_route : (value : List ℕ) → 0 < length value → get_or value 0 0 ≤ 32 → sent_bytes (get_or value 0 0) + 4 ≤ length (drop 1 value)
-    → all_routes value ≡ option_map (λ routes. route_of (get_or value 0 0) (drop 1 value) ∷ routes) (all_routes (drop 4 (drop (sent_bytes (get_or value 0 0)) (drop 1 value))))
+    → all_routes value
+    ≡ option_map (λ routes. route_of (get_or value 0 0) (drop 1 value) ∷ routes) (all_routes (drop 4 (drop (sent_bytes (get_or value 0 0)) (drop 1 value))))
 unfolding all_routes
 one_route [] some narrow long = absurd (omega arith)
 one_route (width ∷ rest) some narrow long =

@@ -17,7 +17,8 @@ abbrev pub InstancesBy : List ℕ → Front → Type 0
 InstancesBy area Pad = instances_in area ≡ instances_in (drop 1 area)
 InstancesBy area End = instances_in area ≡ []
 InstancesBy area Cut = instances_in area ≡ []
-InstancesBy area (Whole n) = instances_in area ≡ (slice_index area 0, take n (drop 2 area)) ∷ instances_in (drop n (drop 2 area))
+InstancesBy area (Whole n) =
+    instances_in area ≡ (slice_index area 0, take n (drop 2 area)) ∷ instances_in (drop n (drop 2 area))
 
 abbrev pub MalformedBy : ℕ → List ℕ → Front → Type 0
 MalformedBy at area Pad = malformed_in at area ≡ malformed_in (at + 1) (drop 1 area)

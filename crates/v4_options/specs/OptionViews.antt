@@ -30,4 +30,5 @@ view_instances view = instances_over view.overload view.areas.options.now view.a
 
 -- the values of a code that are left of a walk
 abbrev pub pieces_left : Pieces → List (List ℕ)
-pieces_left walk = pieces_in walk.code walk.options.now ++ pieces_in walk.code walk.file.now ++ pieces_in walk.code walk.sname.now
+pieces_left walk =
+    pieces_in walk.code walk.options.now ++ pieces_in walk.code walk.file.now ++ pieces_in walk.code walk.sname.now

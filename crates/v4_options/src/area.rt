@@ -60,7 +60,8 @@ pub(crate) fn read_front(area: &[u8]) -> Front
 
 /// The first instance of an area, as its code and its value, and the area after it.
 pub(crate) fn split_option(area: &[u8]) -> Option<(u8, &[u8], &[u8])>
-    ensures { MatchOption result (instances_in area.now ≡ []) (λ x. instances_in area.now ≡ (x.0, x.1.now) ∷ instances_in x.2.now) }
+    ensures { MatchOption result (instances_in area.now ≡ [])
+        (λ x. instances_in area.now ≡ (x.0, x.1.now) ∷ instances_in x.2.now) }
 {
     let mut rest = area;
     'options: loop {
@@ -78,7 +79,8 @@ pub(crate) fn split_option(area: &[u8]) -> Option<(u8, &[u8], &[u8])>
 
 /// The value of an area's first instance of a code, and the area after it.
 pub(crate) fn find_option(area: &[u8], code: u8) -> Option<(&[u8], &[u8])>
-    ensures { MatchOption result (pieces_in code area.now ≡ []) (λ x. pieces_in code area.now ≡ x.0.now ∷ pieces_in code x.1.now) }
+    ensures { MatchOption result (pieces_in code area.now ≡ [])
+        (λ x. pieces_in code area.now ≡ x.0.now ∷ pieces_in code x.1.now) }
 {
     let mut rest = area;
     'instances: while let Some((found, value, others)) = split_option(rest) {

@@ -10,8 +10,8 @@ use crate::code::{
 };
 use crate::overload::{BOTH, FILE, SNAME};
 
-/// Law: the codes of options are those of RFC 2132, RFC 3397 and RFC 3442, and the values of option 52 those of RFC 2132,
-/// section 9.3.
+/// Law: the codes of options are those of RFC 2132, RFC 3397 and RFC 3442, and the values of option 52 those of RFC
+/// 2132, section 9.3.
 pub fn codes_are_those_assigned()
     ensures pad { PAD ≡ 0 }
     ensures subnet_mask { SUBNET_MASK ≡ 1 }

@@ -156,7 +156,8 @@ fn word_at(view: &OptionView, code: u8) -> Option<[u8; 4]>
     Some(word)
 }
 
-/// The number that a code's value is: that of all its instances, end to end. None unless it has 4 bytes. It takes no memory.
+/// The number that a code's value is: that of all its instances, end to end. None unless it has 4 bytes. It takes no
+/// memory.
 pub fn u32_at(view: &OptionView, code: u8) -> Option<u32>
     ensures { result ≡ number_at code (view_instances view.now) }
 {
@@ -164,7 +165,8 @@ pub fn u32_at(view: &OptionView, code: u8) -> Option<u32>
     Some(BigEndian::read_u32(&word))
 }
 
-/// The address that a code's value is: that of all its instances, end to end. None unless it has 4 bytes. It takes no memory.
+/// The address that a code's value is: that of all its instances, end to end. None unless it has 4 bytes. It takes no
+/// memory.
 pub fn addr_at(view: &OptionView, code: u8) -> Option<Ip4>
     ensures { result ≡ address_at code (view_instances view.now) }
 {

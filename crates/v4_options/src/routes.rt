@@ -37,7 +37,8 @@ fn network(width: u8, sent: &[u8]) -> Net4
 #[tactic(auto, using(crate::proofs::RouteSteps::too_wide, crate::proofs::RouteSteps::too_short, crate::proofs::RouteSteps::one_route))]
 fn split_route(value: &[u8]) -> Option<(ClasslessRoute, &[u8])>
     requires { 0 < length value.now }
-    ensures route { MatchOption result (all_routes value.now ≡ None) (λ x. all_routes value.now ≡ option_map (λ routes. x.0 ∷ routes) (all_routes x.1.now)) }
+    ensures route { MatchOption result (all_routes value.now ≡ None)
+        (λ x. all_routes value.now ≡ option_map (λ routes. x.0 ∷ routes) (all_routes x.1.now)) }
     ensures shorter { IfSome result (λ x. length x.1.now < length value.now) }
 {
     let (front, rest) = value.split_at(1);

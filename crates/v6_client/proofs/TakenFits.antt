@@ -124,7 +124,8 @@ come_fits : (kind : IaKind) (items : List Item6) (item : Item6) → FitsItems ki
     → place_of item.net items ≡ None → FitsItems kind (items ++ item ∷ [])
 come_fits kind items item fits fit few none =
     let anew : AllByRecursion (λ (other : Item6). other.net ≢ item.net) items =
-    all_map (λ x. is_of_net item.net x ≡ false) (λ (other : Item6). other.net ≢ item.net) (other_net item.net) items (none_found (is_of_net item.net) items none) in
+    all_map (λ x. is_of_net item.net x ≡ false) (λ (other : Item6). other.net ≢ item.net) (other_net item.net) items
+    (none_found (is_of_net item.net) items none) in
     record {
       few = omega (arith, length-append items (item ∷ []), few);
       each = all_join (FitsItem kind) items (item ∷ []) fits.each (fit, tt);

@@ -1,4 +1,5 @@
--- The IAs that a client's messages name (RFC 8415, sections 18.2.1 to 18.2.8), in the order in which they are asked for.
+-- The IAs that a client's messages name (RFC 8415, sections 18.2.1 to 18.2.8), in the order in which they are asked
+-- for.
 use Rattle.std.specs.Prelude.{ℕ, Bool, not, ◌&&◌, List, [], ◌∷◌, map, filter, take, ◌==◌, if◌then◌else◌}
 use Rattle.std.specs.List.{flat_map, list_any}
 use Rattle.net_types.specs.declared.address.Net6.{Net6}

@@ -77,8 +77,8 @@ abbrev pub has_origin : Option Lease6Content → Bool
 has_origin None = false
 has_origin (Some lease) = is_some lease.origin
 
--- A client that begins for the first time stands on the lease that was read, where that is wished for, the lease tells its
--- origin, and some of its items are valid. `parting` is of these.
+-- A client that begins for the first time stands on the lease that was read, where that is wished for, the lease tells
+-- its origin, and some of its items are valid. `parting` is of these.
 abbrev pub stands_by : Parting6 → ClientContent → Bool
 stands_by parting c = is_off c.state && c.fresh && c.settings.site.persistent && has_origin c.kept && parting.stays
 
@@ -102,7 +102,8 @@ carried_by Down at c = c
 
 -- a client that stands holds what is valid, and the client goes a step of the table
 abbrev pub IsCarried : Carrier6 → (at salt : ℕ) → (old new : ClientContent) → OutContent → Type 0
-IsCarried carrier at salt old new out = IsStep6 (carrier_step carrier at salt old) None (carried_by carrier at old) new out
+IsCarried carrier at salt old new out =
+    IsStep6 (carrier_step carrier at salt old) None (carried_by carrier at old) new out
 
 -- a held address goes, and the client goes a step of the table
 abbrev pub IsContested : Ip6 → (at salt : ℕ) → (old new : ClientContent) → OutContent → Type 0

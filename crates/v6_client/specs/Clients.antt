@@ -13,8 +13,8 @@ use Rattle.v6_client.specs.declared.states.State6.TheVariants.{Off, Waiting, Sol
 use Rattle.v6_client.specs.declared.turn.Turn6.{Turn6}
 use Rattle.v6_client.specs.Settings.{SettingsContent, settings_content}
 
--- What a server is asked that isn't asked for held items. In Soliciting and Requesting it is what the server offered. In
--- Declining it has the addresses that are declined and the items that are held, as they stood before.
+-- What a server is asked that isn't asked for held items. In Soliciting and Requesting it is what the server offered.
+-- In Declining it has the addresses that are declined and the items that are held, as they stood before.
 pub record PleaContent : Type 0 where
   pub server : List ℕ
   pub ias : List AskedContent
@@ -22,9 +22,9 @@ pub record PleaContent : Type 0 where
 abbrev pub plea_content : Plea6 → PleaContent
 plea_content plea = record { server = plea.server.bytes.items; ias = map asked_content plea.ias.items }
 
--- The settings, the transaction id of the last exchange, the longest time between two SOLICITs in milliseconds, the state, the
--- lease that is kept, and what a server is asked. A client is fresh until it begins or is turned off: until then the kept lease
--- is the one that was read at the start.
+-- The settings, the transaction id of the last exchange, the longest time between two SOLICITs in milliseconds, the
+-- state, the lease that is kept, and what a server is asked. A client is fresh until it begins or is turned off: until
+-- then the kept lease is the one that was read at the start.
 pub record ClientContent : Type 0 where
   pub settings : SettingsContent
   pub last : Option ℕ

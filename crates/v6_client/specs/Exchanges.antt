@@ -34,7 +34,8 @@ capped time = min time LONGEST_TIME
 
 -- the message of an exchange is said now
 abbrev pub said : Turn6 → (xid began : ℕ) → Retrans → Exchange6
-said turn xid began r = record { xid = xid; began = began; rt = capped r.rt; sent = r.sent; due = turn.at + capped r.rt }
+said turn xid began r =
+    record { xid = xid; began = began; rt = capped r.rt; sent = r.sent; due = turn.at + capped r.rt }
 
 -- a new exchange
 abbrev pub begun : Turn6 → Parameters → (rand : ℕ) → Exchange6

@@ -29,7 +29,8 @@ offered turn exchange offer preference =
 
 -- Whether the offer is one that the client keeps.
 abbrev pub is_kept_offer : Answer6 → State6 → Bool
-is_kept_offer (answer.Offer preference) (Soliciting exchange offer) = is_taken_at_once exchange preference || is_better offer preference
+is_kept_offer (answer.Offer preference) (Soliciting exchange offer) =
+    is_taken_at_once exchange preference || is_better offer preference
 is_kept_offer _ _ = false
 
 -- In Soliciting: an offer, or a Reply at once.

@@ -55,7 +55,8 @@ duplicate_row turn parting (Requesting exchange) = rests turn (Requesting exchan
 duplicate_row turn parting Bound = contested turn parting Bound
 duplicate_row turn parting (Renewing exchange) = contested turn parting (Renewing exchange)
 duplicate_row turn parting (Rebinding exchange) = contested turn parting (Rebinding exchange)
-duplicate_row turn parting (Restarting exchange end since true) = missed turn parting (Restarting exchange end since true)
+duplicate_row turn parting (Restarting exchange end since true) =
+    missed turn parting (Restarting exchange end since true)
 duplicate_row turn parting (Restarting exchange end since false) = rests turn (Restarting exchange end since false)
 duplicate_row turn parting (Declining exchange) = contested turn parting (Declining exchange)
 

@@ -46,7 +46,8 @@ stays_in (Duplicate address) Na item = not (item.net.ip.number == address.number
 stays_in (Duplicate address) Pd item = true
 
 abbrev pub goes_of : Cause6 → Scope6 → List IaLeaseContent → IaAsk → Bool
-goes_of cause scope ias ask = list_any (λ item. is_in scope item && not (stays_in cause ask.kind item)) (asked_at ask ias)
+goes_of cause scope ias ask =
+    list_any (λ item. is_in scope item && not (stays_in cause ask.kind item)) (asked_at ask ias)
 
 abbrev pub stays_of : Cause6 → Scope6 → List IaLeaseContent → IaAsk → Bool
 stays_of cause scope ias ask = list_any (λ item. is_in scope item && stays_in cause ask.kind item) (asked_at ask ias)

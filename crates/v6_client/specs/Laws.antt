@@ -45,7 +45,8 @@ KeepsGranted = (c new : ClientContent) (message : Content6) (at salt : ℕ) (out
 
 -- A step that no message brings about keeps no lease that wasn't kept.
 abbrev pub BringsNothing : Type 0
-BringsNothing = (step : Step6) (c new : ClientContent) (out : OutContent) (lease : Lease6Content) → IsStep6 step None c new out
+BringsNothing =
+    (step : Step6) (c new : ClientContent) (out : OutContent) (lease : Lease6Content) → IsStep6 step None c new out
     → new.kept ≡ Some lease → c.kept ≡ Some lease
 
 -- a lease that was kept, whole or without the items that go
@@ -54,12 +55,14 @@ CameFrom cause kept lease = (kept ≡ Some lease) ⊎ (option_map (thinned_lease
 
 -- After a tick there are no other items than before.
 abbrev pub TicksBringNothing : Type 0
-TicksBringNothing = (c new : ClientContent) (at salt : ℕ) (out : OutContent) (lease : Lease6Content) → IsTicked at salt c new out
+TicksBringNothing =
+    (c new : ClientContent) (at salt : ℕ) (out : OutContent) (lease : Lease6Content) → IsTicked at salt c new out
     → new.kept ≡ Some lease → CameFrom (Lapse at) c.kept lease
 
 -- A begin keeps what was kept, whole or as far as it is asked for and isn't over.
 abbrev pub BeginsBringNothing : Type 0
-BeginsBringNothing = (c new : ClientContent) (carrier : Carrier6) (at salt : ℕ) (out : OutContent) (lease : Lease6Content)
+BeginsBringNothing =
+    (c new : ClientContent) (carrier : Carrier6) (at salt : ℕ) (out : OutContent) (lease : Lease6Content)
     → IsCarried carrier at salt c new out → new.kept ≡ Some lease
     → (c.kept ≡ Some lease) ⊎ (option_map (pruned_lease at c.settings.asks) c.kept ≡ Some lease)
 
@@ -71,5 +74,6 @@ is_over_at at c = list_any (goes_of (Lapse at) scope.All (ias_of c.kept)) c.sett
 
 -- After a tick no such item is held.
 abbrev pub HoldsNothingOver : Type 0
-HoldsNothingOver = (c new : ClientContent) (at salt : ℕ) (out : Out6) → Ticks c at salt new (Ok out) → holds new.state ≡ true
+HoldsNothingOver =
+    (c new : ClientContent) (at salt : ℕ) (out : Out6) → Ticks c at salt new (Ok out) → holds new.state ≡ true
     → is_over_at (moment_of at) new ≡ false

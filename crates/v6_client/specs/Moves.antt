@@ -74,7 +74,8 @@ told step c = record {
 }
 
 -- the client goes on so, and says so; `fresh` is the lease that a Reply grants
-pub record IsStep6 (step : Step6) (fresh : Option Lease6Content) (old new : ClientContent) (out : OutContent) : Type 0 where
+pub record IsStep6 (step : Step6) (fresh : Option Lease6Content) (old new : ClientContent)
+    (out : OutContent) : Type 0 where
   pub goes_on : new ≡ moved step fresh old
   pub answers : out ≡ told step old
 
@@ -116,8 +117,8 @@ kept_live at parting kept = kept_left (Lapse at) parting kept
 abbrev pub plea_lapsed : (at : ℕ) → List IaLeaseContent → PleaContent → PleaContent
 plea_lapsed at ias plea = record { server = plea.server; ias = ias_lapsed at ias plea.ias }
 
--- Held items whose valid lifetime is over aren't held any more. Where the last one goes, or the restart in which they are held
--- is at its end, the step decides. What is over isn't declined.
+-- Held items whose valid lifetime is over aren't held any more. Where the last one goes, or the restart in which they
+-- are held is at its end, the step decides. What is over isn't declined.
 abbrev pub lapsed : (at : ℕ) → Parting6 → ClientContent → ClientContent
 lapsed at parting c =
     if holds c.state && parting.goes && not (is_at_end at c.state)

@@ -30,7 +30,8 @@ KeepsOrigin old new = IfSome new.kept (HadOrigin old.kept)
 
 -- the lease that is kept was kept before, or a Reply of this moment granted it
 abbrev pub KeepsOrTakesOrigin : (at : ℕ) → (old new : ClientContent) → Type 0
-KeepsOrTakesOrigin at old new = IfSome new.kept (λ lease. (old.kept ≡ Some lease) ⊎ (lease.origin ≡ Some (origin_at at old)))
+KeepsOrTakesOrigin at old new =
+    IfSome new.kept (λ lease. (old.kept ≡ Some lease) ⊎ (lease.origin ≡ Some (origin_at at old)))
 
 -- A Reply alone gives a lease an origin. What was read, or granted before, keeps what it had.
 pub record OriginsAfter (c : ClientContent) (at salt : ℕ) : Type 0 where

@@ -31,12 +31,14 @@ MadeOwn = (settings : SettingsContent) (kept : Option Lease6Content) → OwnIas 
 
 -- the lease that a Reply grants
 abbrev pub GrantsOwn : Type 0
-GrantsOwn = (c : ClientContent) (message : Content6) (at : ℕ) (lease : Lease6Content) → fresh_in at c message ≡ Some lease
+GrantsOwn =
+    (c : ClientContent) (message : Content6) (at : ℕ) (lease : Lease6Content) → fresh_in at c message ≡ Some lease
     → AreAsked c.settings.asks lease.ias
 
 -- the lease that is held
 abbrev pub HeldOwn : Type 0
-HeldOwn = (c : ClientContent) (lease : Lease6Content) → OwnIas c → held_of c ≡ Some lease → AreAsked c.settings.asks lease.ias
+HeldOwn =
+    (c : ClientContent) (lease : Lease6Content) → OwnIas c → held_of c ≡ Some lease → AreAsked c.settings.asks lease.ias
 
 -- ---- calls
 
@@ -44,7 +46,9 @@ abbrev pub TicksOwn : Type 0
 TicksOwn = (c new : ClientContent) (at salt : ℕ) (out : OutContent) → OwnIas c → IsTicked at salt c new out → OwnIas new
 
 abbrev pub MessagesOwn : Type 0
-MessagesOwn = (c new : ClientContent) (message : Content6) (at salt : ℕ) (out : OutContent) → OwnIas c → Hears at salt message c new out
+MessagesOwn =
+    (c new : ClientContent) (message : Content6) (at salt : ℕ) (out : OutContent) → OwnIas c
+    → Hears at salt message c new out
     → OwnIas new
 
 abbrev pub DuplicatesOwn : Type 0
@@ -60,5 +64,6 @@ ReleasesOwn = (c new : ClientContent) (tell : Tell6) (at salt : ℕ) (out : OutC
     → IsStep6 (release_step tell at salt c) None c new out → OwnIas new
 
 abbrev pub RebindsOwn : Type 0
-RebindsOwn = (c new : ClientContent) (at salt : ℕ) (out : OutContent) → OwnIas c → IsStep6 (rebind_step at salt c) None c new out
+RebindsOwn =
+    (c new : ClientContent) (at salt : ℕ) (out : OutContent) → OwnIas c → IsStep6 (rebind_step at salt c) None c new out
     → OwnIas new

@@ -19,14 +19,17 @@ abbrev pub TellsChange : (old new : ClientContent) → OutContent → Type 0
 TellsChange old new out = out.news ≡ news.Nothing → KeepsLeases old new
 
 abbrev pub TicksTell : Type 0
-TicksTell = (c new : ClientContent) (at salt : ℕ) (out : OutContent) → IsTicked at salt c new out → TellsChange c new out
+TicksTell =
+    (c new : ClientContent) (at salt : ℕ) (out : OutContent) → IsTicked at salt c new out → TellsChange c new out
 
 abbrev pub MessagesTell : Type 0
-MessagesTell = (c new : ClientContent) (message : Content6) (at salt : ℕ) (out : OutContent) → Hears at salt message c new out
+MessagesTell =
+    (c new : ClientContent) (message : Content6) (at salt : ℕ) (out : OutContent) → Hears at salt message c new out
     → TellsChange c new out
 
 abbrev pub DuplicatesTell : Type 0
-DuplicatesTell = (c new : ClientContent) (address : Ip6) (at salt : ℕ) (out : OutContent) → IsContested address at salt c new out
+DuplicatesTell =
+    (c new : ClientContent) (address : Ip6) (at salt : ℕ) (out : OutContent) → IsContested address at salt c new out
     → TellsChange c new out
 
 abbrev pub BeginsTell : Type 0
@@ -38,7 +41,9 @@ RebindsTell = (c new : ClientContent) (at salt : ℕ) (out : OutContent) → IsS
     → TellsChange c new out
 
 abbrev pub ReleasesTell : Type 0
-ReleasesTell = (c new : ClientContent) (tell : Tell6) (at salt : ℕ) (out : OutContent) → IsStep6 (release_step tell at salt c) None c new out
+ReleasesTell =
+    (c new : ClientContent) (tell : Tell6) (at salt : ℕ) (out : OutContent)
+    → IsStep6 (release_step tell at salt c) None c new out
     → TellsChange c new out
 
 -- ---- the calls as functions

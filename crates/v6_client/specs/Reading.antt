@@ -92,6 +92,7 @@ serves_by (Some ia) = is_no_binding ia || has_read ia
 abbrev pub some_served : List IaAsk → List IaContent → Bool
 some_served asks ias = list_any (λ ask. serves_by (ia_for ask ias)) asks
 
--- A message serves where all went well, and an IA that is asked for has an item that is read, or isn't known to the server.
+-- A message serves where all went well, and an IA that is asked for has an item that is read, or isn't known to the
+-- server.
 abbrev pub serves : List IaAsk → Content6 → Bool
 serves asks message = (message.status == success) && some_served asks (ias_in message.options)

@@ -16,7 +16,8 @@ span said shortest part =
 abbrev pub spans_of : Option IaContent → Option ℕ → Option Spans6
 spans_of None shortest = None
 spans_of (Some ia) None = None
-spans_of (Some ia) (Some shortest) = Some (record { t1 = span ia.t1 shortest T1_PART; t2 = span ia.t2 shortest T2_PART })
+spans_of (Some ia) (Some shortest) =
+    Some (record { t1 = span ia.t1 shortest T1_PART; t2 = span ia.t2 shortest T2_PART })
 
 -- each is the least of all IAs
 abbrev pub joined : Option Spans6 → Option Spans6 → Option Spans6

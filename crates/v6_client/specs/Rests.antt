@@ -12,11 +12,13 @@ IsQuietAnswer (Ok out) = IsQuiet (out_content out)
 IsQuietAnswer (Err fault) = ⊥
 
 -- where it isn't due nothing changes; where it is, what is over goes, and the client goes a step of the table
-pub record Ticks (old : ClientContent) (at salt : ℕ) (new : ClientContent) (answer : Result Out6 NoMemory) : Type 0 where
+pub record Ticks (old : ClientContent) (at salt : ℕ) (new : ClientContent)
+    (answer : Result Out6 NoMemory) : Type 0 where
   pub rests : is_due (due_of old) (moment_of at) ≡ false → (new ≡ old) × IsQuietAnswer answer
   pub goes : is_due (due_of old) (moment_of at) ≡ true
       → IfOk answer (λ out. IsTicked (moment_of at) salt old new (out_content out))
 
-pub tick_rests : (old new : ClientContent) (at salt : ℕ) (answer : Result Out6 NoMemory) → is_due (due_of old) at ≡ false
+pub tick_rests : (old new : ClientContent) (at salt : ℕ) (answer : Result Out6 NoMemory)
+    → is_due (due_of old) at ≡ false
     → Ticks old at salt new answer → (new ≡ old) × IsQuietAnswer answer
 tick_rests old new at salt answer h ticks = ticks.rests (not_due-moment_of (due_of old) at h)

@@ -19,7 +19,9 @@ abbrev pub turned : ClientContent → OutContent → Turned6
 turned client out = record { client = client; out = out }
 
 abbrev pub StepsRun : Type 0
-StepsRun = (step : Step6) (fresh : Option Lease6Content) (old new : ClientContent) (out : OutContent) → IsStep6 step fresh old new out
+StepsRun =
+    (step : Step6) (fresh : Option Lease6Content) (old new : ClientContent) (out : OutContent)
+    → IsStep6 step fresh old new out
     → turned new out ≡ stepped step fresh old
 
 -- whether it is due or not
@@ -31,7 +33,8 @@ abbrev pub TicksWait : Type 0
 TicksWait = (c : ClientContent) (at salt : ℕ) → is_due (due_of c) at ≡ false → tick_turned at salt c ≡ rested c
 
 abbrev pub MessagesRun : Type 0
-MessagesRun = (old new : ClientContent) (message : Content6) (at salt : ℕ) (out : OutContent) → Hears at salt message old new out
+MessagesRun =
+    (old new : ClientContent) (message : Content6) (at salt : ℕ) (out : OutContent) → Hears at salt message old new out
     → turned new out ≡ hears_turned at salt message old
 
 abbrev pub CarriersRun : Type 0
@@ -39,7 +42,8 @@ CarriersRun = (old new : ClientContent) (carrier : Carrier6) (at salt : ℕ) (ou
     → IsCarried carrier at salt old new out → turned new out ≡ carrier_turned carrier at salt old
 
 abbrev pub DuplicatesRun : Type 0
-DuplicatesRun = (old new : ClientContent) (address : Ip6) (at salt : ℕ) (out : OutContent) → IsContested address at salt old new out
+DuplicatesRun =
+    (old new : ClientContent) (address : Ip6) (at salt : ℕ) (out : OutContent) → IsContested address at salt old new out
     → turned new out ≡ contested_turned address at salt old
 
 abbrev pub ReleasesRun : Type 0
@@ -47,5 +51,6 @@ ReleasesRun = (old new : ClientContent) (tell : Tell6) (at salt : ℕ) (out : Ou
     → IsStep6 (release_step tell at salt old) None old new out → turned new out ≡ release_turned tell at salt old
 
 abbrev pub RebindsRun : Type 0
-RebindsRun = (old new : ClientContent) (at salt : ℕ) (out : OutContent) → IsStep6 (rebind_step at salt old) None old new out
+RebindsRun =
+    (old new : ClientContent) (at salt : ℕ) (out : OutContent) → IsStep6 (rebind_step at salt old) None old new out
     → turned new out ≡ rebind_turned at salt old

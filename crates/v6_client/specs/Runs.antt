@@ -35,14 +35,17 @@ stepped step fresh c = record { client = moved step fresh c; out = told step c }
 unfoldable pub tick_turned : (at salt : ℕ) → ClientContent → Turned6
 tick_turned at salt c =
     if is_due (due_of c) at
-    then stepped (tick_row (turn_of at salt c) (dates_in c) (parting_at (Lapse at) c) c.state) None (lapsed at (parting_at (Lapse at) c) c)
+    then stepped (tick_row (turn_of at salt c) (dates_in c) (parting_at (Lapse at) c) c.state) None
+    (lapsed at (parting_at (Lapse at) c) c)
     else rested c
 
 -- a message that counts, after what was learnt from it
 abbrev pub answered : (at salt : ℕ) → Content6 → ServerKind6 → ClientContent → Turned6
 answered at salt message Advertise c =
-    stepped (heard_row (turn_of at salt c) (advertise_answer c message) c.state) None (advertised (advertise_answer c message) message c)
-answered at salt message Reply c = stepped (heard_row (turn_of at salt c) (answer_in at c message) c.state) (fresh_in at c message) c
+    stepped (heard_row (turn_of at salt c) (advertise_answer c message) c.state) None
+    (advertised (advertise_answer c message) message c)
+answered at salt message Reply c =
+    stepped (heard_row (turn_of at salt c) (answer_in at c message) c.state) (fresh_in at c message) c
 
 -- another one changes nothing
 unfoldable pub hears_turned : (at salt : ℕ) → Content6 → ClientContent → Turned6
@@ -55,7 +58,8 @@ carrier_turned carrier at salt c = stepped (carrier_step carrier at salt c) None
 -- an address that another host uses goes, where it is held
 unfoldable pub contested_turned : Ip6 → (at salt : ℕ) → ClientContent → Turned6
 contested_turned address at salt c =
-    stepped (duplicate_row (turn_of at salt c) (parting_at (Duplicate address) c) c.state) None (given_up address (parting_at (Duplicate address) c) c)
+    stepped (duplicate_row (turn_of at salt c) (parting_at (Duplicate address) c) c.state) None
+    (given_up address (parting_at (Duplicate address) c) c)
 
 unfoldable pub release_turned : Tell6 → (at salt : ℕ) → ClientContent → Turned6
 release_turned tell at salt c = stepped (release_step tell at salt c) None c

@@ -15,7 +15,8 @@ use Rattle.v6_client.specs.Runs.{carrier_turned, contested_turned, hears_turned,
 use Rattle.v6_client.specs.Sound.{IsSound}
 
 -- It holds of the client after each call of this moment. What a message brings is told by `Fits`.
-pub record AfterEach (P : ClientContent → Type 0) (Fits : Content6 → Type 0) (c : ClientContent) (at salt : ℕ) : Type 0 where
+pub record AfterEach (P : ClientContent → Type 0) (Fits : Content6 → Type 0) (c : ClientContent)
+    (at salt : ℕ) : Type 0 where
   pub tick : P (tick_turned at salt c).client
   pub message : (message : Content6) → Fits message → P (hears_turned at salt message c).client
   pub carrier : (carrier : Carrier6) → P (carrier_turned carrier at salt c).client

@@ -38,7 +38,8 @@ plea_ias None = []
 plea_ias (Some plea) = plea.ias
 
 -- `scope` is the client's as it stands when it has said the message
-abbrev pub ias_said : Kind6 → Scope6 → List IaAsk → Option Lease6Content → (stood : List AskedContent) → List AskedContent
+abbrev pub ias_said : Kind6 → Scope6 → List IaAsk → Option Lease6Content → (stood : List AskedContent)
+    → List AskedContent
 ias_said kind.Solicit scope asks kept stood = map ia_solicited asks
 ias_said kind.Request scope asks kept stood = stood
 ias_said kind.Renew scope asks kept stood = ias_asked scope (ias_of kept) asks
@@ -69,7 +70,8 @@ rapid_said kind.Rebind rapid = false
 rapid_said kind.Release rapid = false
 rapid_said kind.Decline rapid = false
 
-abbrev pub spoken_by : (rapid : Bool) → Scope6 → List IaAsk → Option Lease6Content → Option PleaContent → Say6 → SpokenContent
+abbrev pub spoken_by : (rapid : Bool) → Scope6 → List IaAsk → Option Lease6Content → Option PleaContent → Say6
+    → SpokenContent
 spoken_by rapid scope asks kept plea say = record {
   kind = say.kind;
   xid = say.xid;

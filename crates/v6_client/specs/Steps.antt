@@ -20,7 +20,8 @@ use Rattle.v6_client.specs.Times.{first_delay, elapsed}
 
 -- the client stands so, and nothing is said
 abbrev pub goes_to : State6 → (last : Option ℕ) → Step6
-goes_to state last = record { state = state; last = last; keep = Stays; say = None; news = news.Nothing; spends = false }
+goes_to state last =
+    record { state = state; last = last; keep = Stays; say = None; news = news.Nothing; spends = false }
 
 abbrev pub rests : Turn6 → State6 → Step6
 rests turn state = goes_to state turn.last
@@ -41,7 +42,8 @@ soliciting turn exchange = speaks turn kind.Solicit exchange (Soliciting exchang
 
 -- SOLICIT, whose first time is above one second (RFC 8415, section 18.2.1)
 abbrev pub solicits : Turn6 → Step6
-solicits turn = soliciting turn (begun turn (solicit_parameters turn) (positive_rand_of turn.salt turn.site.iface.index))
+solicits turn =
+    soliciting turn (begun turn (solicit_parameters turn) (positive_rand_of turn.salt turn.site.iface.index))
 
 abbrev pub requesting : Turn6 → Exchange6 → Step6
 requesting turn exchange = speaks turn kind.Request exchange (Requesting exchange)

@@ -1,4 +1,5 @@
--- How a Reply is taken (RFC 8415, sections 18.2.10.1 and 14.2): which items stay, which change their moments, and which come.
+-- How a Reply is taken (RFC 8415, sections 18.2.10.1 and 14.2): which items stay, which change their moments, and which
+-- come.
 use Rattle.std.specs.Prelude.{ℕ, Bool, true, false, ◌&&◌, List, [], ◌∷◌, ◌++◌, filter, fold, length, position, remove, slice_set, min, Option, Some, None, nat_lt, ◌==◌, if◌then◌else◌}
 use Rattle.std.specs.List.{list_any, flat_map}
 use Rattle.net_types.specs.declared.interface.IfSpec.{IfSpec}

@@ -1,5 +1,5 @@
--- The rows of ticks (RFC 8415, section 18.2): what a client does when its moment has come. `parting` says what is over of its
--- items.
+-- The rows of ticks (RFC 8415, section 18.2): what a client does when its moment has come. `parting` says what is over
+-- of its items.
 use Rattle.std.specs.Prelude.{ℕ, Bool, true, false, max, Option, Some, None, nat_le, if◌then◌else◌}
 use Rattle.machine.specs.Moment.{is_due}
 use Rattle.v6_retrans.specs.declared.parameters.TheConstants.{REQUEST, RENEW, REBIND, DECLINE}
@@ -82,6 +82,7 @@ tick_row turn dates parting (Rebinding exchange) = tells_parting parting (rebind
 -- The kept items are asked for again until the end. Where they are held, those that are over go, which is told.
 tick_row turn dates parting (Restarting exchange end since true) =
     tells_parting parting (restarting_tick turn parting exchange end since true)
-tick_row turn dates parting (Restarting exchange end since false) = restarting_tick turn parting exchange end since false
+tick_row turn dates parting (Restarting exchange end since false) =
+    restarting_tick turn parting exchange end since false
 -- DECLINE again; after the last one what is left is held.
 tick_row turn dates parting (Declining exchange) = tells_parting parting (declining_tick turn parting exchange)

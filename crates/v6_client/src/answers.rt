@@ -11,7 +11,8 @@ use crate::times::SECOND;
 use lease6_text::Lease6;
 use v6_options::Duid;
 
-/// The least seconds that a server may tell as the longest time between two SOLICITs, and the most (RFC 8415, section 21.24).
+/// The least seconds that a server may tell as the longest time between two SOLICITs, and the most (RFC 8415, section
+/// 21.24).
 pub const LEAST_SOL_MAX: u32 = 60;
 
 pub const MOST_SOL_MAX: u32 = 86_400;
@@ -77,7 +78,8 @@ pub(crate) fn chosen<'a>(
     leased: Option<&'a [u8]>,
     pleaded: Option<&'a [u8]>,
 ) -> Option<&'a [u8]>
-    ensures { option_map (λ v. v.now) result ≡ answers.chosen state (option_map (λ v. v.now) leased.entry) (option_map (λ v. v.now) pleaded.entry) }
+    ensures { option_map (λ v. v.now) result
+        ≡ answers.chosen state (option_map (λ v. v.now) leased.entry) (option_map (λ v. v.now) pleaded.entry) }
 {
     match state {
         State6::Requesting { .. } | State6::Declining { .. } => pleaded,
@@ -141,7 +143,9 @@ pub(crate) fn reply_answer(
     kept: &Option<Lease6>,
     fresh: &Option<Lease6>,
 ) -> Answer6
-    ensures { result ≡ answers.reply_answer declining taken (option_map lease6_content kept.now) (option_map lease6_content fresh.now) }
+    ensures { result
+        ≡ answers.reply_answer declining taken (option_map lease6_content kept.now)
+        (option_map lease6_content fresh.now) }
 {
     if declining {
         return match kept {

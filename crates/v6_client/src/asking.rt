@@ -24,7 +24,9 @@ fn push_asked(
     items: Vec<Net6>,
 ) -> Result<(), NoMemory>
     requires { length items.items ≤ 4 }
-    ensures { OnOk result (map asked_content ias.new.items ≡ map asked_content ias.old.items ++ asking.asked_with kind iaid items.items ∷ []) }
+    ensures { OnOk result
+        (map asked_content ias.new.items
+        ≡ map asked_content ias.old.items ++ asking.asked_with kind iaid items.items ∷ []) }
 {
     ias.push(IaAsked { kind, iaid, items })?;
     Ok(())
@@ -38,7 +40,8 @@ fn push_named(
     items: Vec<Net6>,
 ) -> Result<(), NoMemory>
     requires { length items.items ≤ 4 }
-    ensures { OnOk result (map asked_content ias.new.items ≡ map asked_content ias.old.items ++ asking.named_with kind iaid items.items) }
+    ensures { OnOk result
+        (map asked_content ias.new.items ≡ map asked_content ias.old.items ++ asking.named_with kind iaid items.items) }
 {
     if !items.is_empty() {
         push_asked(ias, kind, iaid, items)?;
@@ -171,7 +174,8 @@ pub(crate) fn ias_declined(
     ias: &[IaLease],
     stood: &[IaAsked],
 ) -> Result<Vec<IaAsked>, NoMemory>
-    ensures { IfOk result (λ all. map asked_content all.items ≡ asking.ias_declined (ias_content ias.now) (map asked_content stood.now)) }
+    ensures { IfOk result
+        (λ all. map asked_content all.items ≡ asking.ias_declined (ias_content ias.now) (map asked_content stood.now)) }
 {
     let mut all = Vec::new(alloc);
     'stood: for ia in stood {
@@ -213,7 +217,9 @@ pub(crate) fn ias_lapsed(
     ias: &[IaLease],
     stood: &[IaAsked],
 ) -> Result<Vec<IaAsked>, NoMemory>
-    ensures { IfOk result (λ all. map asked_content all.items ≡ asking.ias_lapsed at (ias_content ias.now) (map asked_content stood.now)) }
+    ensures { IfOk result
+        (λ all. map asked_content all.items
+        ≡ asking.ias_lapsed at (ias_content ias.now) (map asked_content stood.now)) }
 {
     let mut all = Vec::new(alloc);
     'stood: for ia in stood {

@@ -133,7 +133,8 @@ impl Client6 {
     /// Goes a step of the table. `fresh` is the lease that a Reply grants.
     fn go(&mut self, step: Step6, fresh: Option<Lease6>) -> Result<Out6, NoMemory>
         requires { IfSome (option_map lease6_content fresh) FitsLease6 }
-        ensures { IfOk result (λ out. IsStep6 step (option_map lease6_content fresh) self.old self.new (out_content out)) }
+        ensures { IfOk result
+            (λ out. IsStep6 step (option_map lease6_content fresh) self.old self.new (out_content out)) }
     {
         let say = match step.say {
             Some(say) => Some(spoken_by(
@@ -281,7 +282,8 @@ impl Client6 {
     /// Hears an Advertise that counts.
     fn hear_advertise(&mut self, message: &Msg6, at: u64, salt: u64) -> Result<Out6, NoMemory>
         requires { IsMoment at }
-        ensures { IfOk result (λ out. calls.Advertises at salt (message_shown message.now) self.old self.new (out_content out)) }
+        ensures { IfOk result
+            (λ out. calls.Advertises at salt (message_shown message.now) self.old self.new (out_content out)) }
     {
         let answer = self.advertise_answer(message);
         let step = heard_row(self.turn(at, salt), answer, self.state);
@@ -298,7 +300,9 @@ impl Client6 {
     /// The lease that a Reply grants, where it is taken.
     fn fresh_lease(&self, message: &Msg6, at: u64, taken: bool) -> Result<Option<Lease6>, NoMemory>
         requires { IsMoment at }
-        ensures lease { IfOk result (λ fresh. option_map lease6_content fresh ≡ answers.fresh_of at taken self.now (message_shown message.now)) }
+        ensures lease { IfOk result
+            (λ fresh. option_map lease6_content fresh
+            ≡ answers.fresh_of at taken self.now (message_shown message.now)) }
         ensures fits { IfOk result (λ fresh. IfSome (option_map lease6_content fresh) FitsLease6) }
     {
         if !taken {
@@ -319,7 +323,8 @@ impl Client6 {
     /// Hears a Reply that counts.
     fn hear_reply(&mut self, message: &Msg6, at: u64, salt: u64) -> Result<Out6, NoMemory>
         requires { IsMoment at }
-        ensures { IfOk result (λ out. calls.Replies at salt (message_shown message.now) self.old self.new (out_content out)) }
+        ensures { IfOk result
+            (λ out. calls.Replies at salt (message_shown message.now) self.old self.new (out_content out)) }
     {
         let taken = self.is_taken(message);
         let fresh = self.fresh_lease(message, at, taken)?;
@@ -334,7 +339,9 @@ impl Client6 {
     /// Hears a message that counts.
     fn hear(&mut self, message: &Msg6, at: u64, salt: u64) -> Result<Out6, NoMemory>
         requires { IsMoment at }
-        ensures { IfOk result (λ out. calls.IsAnswered at salt (message_shown message.now) message.now.kind self.old self.new (out_content out)) }
+        ensures { IfOk result
+            (λ out. calls.IsAnswered at salt (message_shown message.now) message.now.kind self.old self.new
+            (out_content out)) }
     {
         match message.kind {
             ServerKind6::Advertise => self.hear_advertise(message, at, salt),
@@ -345,7 +352,8 @@ impl Client6 {
 
 /// The server of a message, where it is told by a DUID.
 fn server_of(alloc: Global, message: &Msg6) -> Result<Option<Duid>, NoMemory>
-    ensures { IfOk result (λ server. option_map (λ d. d.bytes.items) server ≡ answers.server_of (message_shown message.now)) }
+    ensures { IfOk result
+        (λ server. option_map (λ d. d.bytes.items) server ≡ answers.server_of (message_shown message.now)) }
 {
     match message.server {
         Some(server) => Duid::new(alloc, server),
@@ -356,7 +364,10 @@ fn server_of(alloc: Global, message: &Msg6) -> Result<Option<Duid>, NoMemory>
 /// What a server offers.
 fn plea_offered(alloc: Global, asks: &[IaAsk], message: &Msg6) -> Result<Option<Plea6>, NoMemory>
     requires { length asks.now ≤ 6 }
-    ensures { IfOk result (λ plea. option_map plea_content plea ≡ option_map (answers.plea_offered asks.now (message_shown message.now)) (answers.server_of (message_shown message.now))) }
+    ensures { IfOk result
+        (λ plea. option_map plea_content plea
+        ≡ option_map (answers.plea_offered asks.now (message_shown message.now))
+        (answers.server_of (message_shown message.now))) }
 {
     let Some(server) = server_of(alloc, message)? else {
         return Ok(None);
@@ -413,7 +424,8 @@ impl Machine for Client6 {
 /// Hears a message. Memory is wanted only for one that counts; any other changes nothing.
 pub fn heard6(c: &mut Client6, message: &Msg6, at: u64, salt: u64) -> Result<Out6, NoMemory>
     ensures memory { OnErr result (answers.counts c.old (message_shown message.now) ≡ true) }
-    ensures step { IfOk result (λ out. calls.Hears (moment_of at) salt (message_shown message.now) c.old c.new (out_content out)) }
+    ensures step { IfOk result
+        (λ out. calls.Hears (moment_of at) salt (message_shown message.now) c.old c.new (out_content out)) }
 {
     let at = clamp_moment(at);
     if !c.counts(message) {
@@ -447,7 +459,8 @@ pub fn duplicate6(c: &mut Client6, address: Ip6, at: u64, salt: u64) -> Result<O
 
 /// The client stops; where items are held, `tell` says whether their server is told.
 pub fn release6(c: &mut Client6, tell: Tell6, at: u64, salt: u64) -> Result<Out6, NoMemory>
-    ensures { IfOk result (λ out. IsStep6 (calls.release_step tell (moment_of at) salt c.old) None c.old c.new (out_content out)) }
+    ensures { IfOk result
+        (λ out. IsStep6 (calls.release_step tell (moment_of at) salt c.old) None c.old c.new (out_content out)) }
 {
     let turn = c.turn(clamp_moment(at), salt);
     let step = release_row(turn, tell, c.leases.is_kept(), c.state);
@@ -456,7 +469,8 @@ pub fn release6(c: &mut Client6, tell: Tell6, at: u64, salt: u64) -> Result<Out6
 
 /// Held items are to be rebound at once; a client that is off begins.
 pub fn rebind6(c: &mut Client6, at: u64, salt: u64) -> Result<Out6, NoMemory>
-    ensures { IfOk result (λ out. IsStep6 (calls.rebind_step (moment_of at) salt c.old) None c.old c.new (out_content out)) }
+    ensures { IfOk result
+        (λ out. IsStep6 (calls.rebind_step (moment_of at) salt c.old) None c.old c.new (out_content out)) }
 {
     let at = clamp_moment(at);
     let turn = c.turn(at, salt);

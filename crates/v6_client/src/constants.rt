@@ -7,8 +7,8 @@ use crate::exchange::LONGEST_TIME;
 use crate::hearing::HIGHEST_PREFERENCE;
 use crate::times::{DELAY_SPREAD, FOREVER, LEAST_TIME, RESTART_TIME, SECOND, T1_PART, T2_PART};
 
-/// Law: the client keeps the numbers of RFC 8415, sections 7.6, 18.2.1, 21.4, 21.8 and 21.24: times in milliseconds, those of
-/// SOL_MAX_RT in seconds, parts in thousandths.
+/// Law: the client keeps the numbers of RFC 8415, sections 7.6, 18.2.1, 21.4, 21.8 and 21.24: times in milliseconds,
+/// those of SOL_MAX_RT in seconds, parts in thousandths.
 pub fn times_are_those_of_rfc_8415()
     ensures least_sol_max { LEAST_SOL_MAX ≡ 60 }
     ensures most_sol_max { MOST_SOL_MAX ≡ 86400 }

@@ -13,8 +13,8 @@ use crate::steps::{
 use crate::turn::Turn6;
 use v6_message::Kind6;
 
-/// The client begins. `parting` is of the items of the kept lease that are valid, and `stands` says whether they are held while
-/// they are asked for again.
+/// The client begins. `parting` is of the items of the kept lease that are valid, and `stands` says whether they are
+/// held while they are asked for again.
 fn begins(turn: Turn6, stands: bool, parting: Parting6) -> Step6
     requires { FitsTurn turn }
     ensures { result ≡ inputs.begins turn stands parting }

@@ -42,7 +42,8 @@ fn old_copied(
     held: bool,
     kept: &Option<Lease6>,
 ) -> Result<Option<Lease6>, NoMemory>
-    ensures { IfOk result (λ old. option_map lease6_content old ≡ old_of news held (option_map lease6_content kept.now)) }
+    ensures { IfOk result
+        (λ old. option_map lease6_content old ≡ old_of news held (option_map lease6_content kept.now)) }
 {
     if is_of_held(news) && held {
         return kept_copied(alloc, kept);
@@ -59,7 +60,8 @@ impl Leases6 {
         step: Step6,
         fresh: Option<Lease6>,
     ) -> Result<Option<Lease6>, NoMemory>
-        ensures kept { OnOk result (kept_in self.new ≡ kept_after step.keep (option_map lease6_content fresh) (kept_in self.old)) }
+        ensures kept { OnOk result
+            (kept_in self.new ≡ kept_after step.keep (option_map lease6_content fresh) (kept_in self.old)) }
         ensures plea { OnOk result (plea_in self.new ≡ plea_in self.old) }
         ensures old { IfOk result (λ old. option_map lease6_content old ≡ old_of step.news held (kept_in self.old)) }
         ensures err { OnErr result (kept_in self.new ≡ kept_in self.old) }
@@ -92,7 +94,8 @@ impl Leases6 {
         step: Step6,
         fresh: Option<Lease6>,
     ) -> Result<Option<Lease6>, NoMemory>
-        ensures kept { OnOk result (kept_in self.new ≡ kept_after step.keep (option_map lease6_content fresh) (kept_in self.old)) }
+        ensures kept { OnOk result
+            (kept_in self.new ≡ kept_after step.keep (option_map lease6_content fresh) (kept_in self.old)) }
         ensures plea { OnOk result (plea_in self.new ≡ plea_after step.state (plea_in self.old)) }
         ensures old { IfOk result (λ old. option_map lease6_content old ≡ old_of step.news held (kept_in self.old)) }
         ensures err { OnErr result (kept_in self.new ≡ kept_in self.old) }

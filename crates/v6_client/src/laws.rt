@@ -12,8 +12,9 @@ pub fn ignores_foreign6()
     ensures { IgnoresForeign }
 {}
 
-/// Law: the lease that is kept when a message was heard was kept before, or the message is a Reply of the client's own exchange,
-/// to its DUID, that served it and granted this lease. Every other call keeps none that wasn't kept; items only go.
+/// Law: the lease that is kept when a message was heard was kept before, or the message is a Reply of the client's own
+/// exchange, to its DUID, that served it and granted this lease. Every other call keeps none that wasn't kept; items
+/// only go.
 pub fn keeps_granted6()
     ensures granted { KeepsGranted }
     ensures others { BringsNothing }
@@ -21,7 +22,8 @@ pub fn keeps_granted6()
     ensures begins { BeginsBringNothing }
 {}
 
-/// Law: after a tick no item of an IA that is asked for is held whose valid lifetime is over (RFC 8415, section 18.2.10.1).
+/// Law: after a tick no item of an IA that is asked for is held whose valid lifetime is over (RFC 8415, section
+/// 18.2.10.1).
 pub fn holds_nothing_over6()
     ensures { HoldsNothingOver }
 {}
@@ -38,8 +40,8 @@ pub fn calls_run6()
     ensures rebinds { RebindsRun }
 {}
 
-/// Law: where a call has no news, the lease that is kept and the one that is held are as before. The carrier's loss is no such call:
-/// then none is held.
+/// Law: where a call has no news, the lease that is kept and the one that is held are as before. The carrier's loss is
+/// no such call: then none is held.
 pub fn quiet_steps_keep6()
     ensures ticks { TicksTell }
     ensures messages { MessagesTell }
@@ -71,8 +73,8 @@ pub fn stays_sound6()
     ensures grants { GrantsFit }
 {}
 
-/// Law: a lease that a Reply grants tells the interface's hardware address and the moment at which the Reply was heard. Every other
-/// lease that is kept tells what it told before, items that went or not.
+/// Law: a lease that a Reply grants tells the interface's hardware address and the moment at which the Reply was heard.
+/// Every other lease that is kept tells what it told before, items that went or not.
 pub fn keeps_origins6()
     ensures grants { GrantsOrigin }
     ensures stays { OriginsStay }

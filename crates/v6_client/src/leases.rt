@@ -1,5 +1,5 @@
-//! What a client has in memory beside its state: the lease that is kept, and what it asks a server that isn't asked for held
-//! items.
+//! What a client has in memory beside its state: the lease that is kept, and what it asks a server that isn't asked for
+//! held items.
 
 ghost use Rattle.std.specs.Prelude.{◌≡◌, ◌≤◌, length, map, true, option_map, IfOk, OnErr, OnOk};
 ghost use Rattle.v6_message.specs.Requests.{asked_content};
@@ -16,8 +16,8 @@ use std::alloc::{AllocError, Global};
 use v6_message::IaAsked;
 use v6_options::Duid;
 
-/// What a server is asked. In Soliciting and Requesting `ias` is what the server offered. In Declining it is what stood in each
-/// IA before: what is declined, and what is held.
+/// What a server is asked. In Soliciting and Requesting `ias` is what the server offered. In Declining it is what stood
+/// in each IA before: what is declined, and what is held.
 #[derive(Drop)]
 pub struct Plea6 {
     pub server: Duid,

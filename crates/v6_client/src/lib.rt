@@ -1,5 +1,5 @@
-//! The DHCPv6 client of one interface (RFC 8415, section 18.2): it acquires addresses and delegated prefixes from one server,
-//! renews and rebinds them, declines an address that another host uses, and gives all of them up.
+//! The DHCPv6 client of one interface (RFC 8415, section 18.2): it acquires addresses and delegated prefixes from one
+//! server, renews and rebinds them, declines an address that another host uses, and gives all of them up.
 #![tactic(auto)]
 
 mod answers;

@@ -18,7 +18,9 @@ use std::alloc::Global;
 
 /// The lease without the items that go.
 fn thin(alloc: Global, cause: Cause6, kept: &mut Option<Lease6>) -> Result<(), NoMemory>
-    ensures kept { OnOk result (option_map lease6_content kept.new ≡ option_map (moves.thinned_lease cause) (option_map lease6_content kept.old)) }
+    ensures kept { OnOk result
+        (option_map lease6_content kept.new
+        ≡ option_map (moves.thinned_lease cause) (option_map lease6_content kept.old)) }
     ensures err { OnErr result (option_map lease6_content kept.new ≡ option_map lease6_content kept.old) }
 {
     if let Some(lease) = kept {
@@ -34,7 +36,9 @@ fn prune_in(
     asks: &[IaAsk],
     kept: &mut Option<Lease6>,
 ) -> Result<(), NoMemory>
-    ensures kept { OnOk result (option_map lease6_content kept.new ≡ option_map (pruned_lease at asks.now) (option_map lease6_content kept.old)) }
+    ensures kept { OnOk result
+        (option_map lease6_content kept.new
+        ≡ option_map (pruned_lease at asks.now) (option_map lease6_content kept.old)) }
     ensures err { OnErr result (option_map lease6_content kept.new ≡ option_map lease6_content kept.old) }
 {
     if let Some(lease) = kept {
@@ -50,7 +54,9 @@ fn plea_lapsed(
     ias: &[IaLease],
     plea: &mut Option<Plea6>,
 ) -> Result<(), NoMemory>
-    ensures { OnOk result (option_map plea_content plea.new ≡ option_map (moves.plea_lapsed at (ias_content ias.now)) (option_map plea_content plea.old)) }
+    ensures { OnOk result
+        (option_map plea_content plea.new
+        ≡ option_map (moves.plea_lapsed at (ias_content ias.now)) (option_map plea_content plea.old)) }
 {
     if let Some(plea) = plea {
         plea.ias = ias_lapsed(alloc, at, ias, &plea.ias)?;
@@ -61,7 +67,9 @@ fn plea_lapsed(
 /// What is declined is told by what stands in each IA of the lease.
 fn plea_by(alloc: Global, kept: &Option<Lease6>, asks: &[IaAsk]) -> Result<Option<Plea6>, NoMemory>
     requires { length asks.now ≤ 6 }
-    ensures { IfOk result (λ plea. option_map plea_content plea ≡ option_map (moves.plea_by asks.now) (option_map lease6_content kept.now)) }
+    ensures { IfOk result
+        (λ plea. option_map plea_content plea
+        ≡ option_map (moves.plea_by asks.now) (option_map lease6_content kept.now)) }
 {
     match kept {
         Some(lease) => Ok(Some(Plea6 {
@@ -80,7 +88,9 @@ impl Leases6 {
         at: u64,
         parting: Parting6,
     ) -> Result<(), NoMemory>
-        ensures plea { OnOk result (plea_in self.new ≡ option_map (moves.plea_lapsed at (own.ias_of (kept_in self.old))) (plea_in self.old)) }
+        ensures plea { OnOk result
+            (plea_in self.new
+            ≡ option_map (moves.plea_lapsed at (own.ias_of (kept_in self.old))) (plea_in self.old)) }
         ensures kept { OnOk result (kept_in self.new ≡ moves.kept_live at parting (kept_in self.old)) }
         ensures err { OnErr result (kept_in self.new ≡ kept_in self.old) }
     {
@@ -114,8 +124,8 @@ impl Leases6 {
         prune_in(alloc, at, asks, &mut self.kept)
     }
 
-    /// A held address is declined, since another host uses it. Where the client wasn't declining before, what is declined is told from
-    /// now on by what stood in each IA.
+    /// A held address is declined, since another host uses it. Where the client wasn't declining before, what is
+    /// declined is told from now on by what stood in each IA.
     pub(crate) fn decline(
         &mut self,
         alloc: Global,
@@ -124,7 +134,8 @@ impl Leases6 {
         asks: &[IaAsk],
     ) -> Result<(), NoMemory>
         requires { length asks.now ≤ 6 }
-        ensures plea { OnOk result (plea_in self.new ≡ moves.plea_with declining asks.now (kept_in self.old) (plea_in self.old)) }
+        ensures plea { OnOk result
+            (plea_in self.new ≡ moves.plea_with declining asks.now (kept_in self.old) (plea_in self.old)) }
         ensures kept { OnOk result (kept_in self.new ≡ option_map (moves.thinned_lease cause) (kept_in self.old)) }
         ensures err { OnErr result (kept_in self.new ≡ kept_in self.old) }
     {

@@ -101,7 +101,8 @@ fn is_readable(ia: IaView) -> bool
 /// Adds an item where it is read, and fewer than four are there.
 fn push_read(saids: &mut Vec<ItemSaid>, kind: IaKind, said: ItemSaid) -> Result<(), NoMemory>
     requires { length saids.old.items ≤ 4 }
-    ensures saids { OnOk result (saids.new.items ≡ take 4 (saids.old.items ++ cons_option (reading.read_item kind said) [])) }
+    ensures saids { OnOk result
+        (saids.new.items ≡ take 4 (saids.old.items ++ cons_option (reading.read_item kind said) [])) }
     ensures few { length saids.new.items ≤ 4 }
 {
     if saids.len() >= ITEM_LIMIT {

@@ -26,8 +26,8 @@ fn plea_ias(plea: &Option<Plea6>) -> &[IaAsked]
     }
 }
 
-/// The IAs that a message names. `scope` is the client's as it stands when it has said the message, and `stood` what a server is
-/// asked that isn't asked for held items.
+/// The IAs that a message names. `scope` is the client's as it stands when it has said the message, and `stood` what a
+/// server is asked that isn't asked for held items.
 fn ias_said(
     alloc: Global,
     kind: Kind6,
@@ -36,7 +36,9 @@ fn ias_said(
     stood: &[IaAsked],
     asks: &[IaAsk],
 ) -> Result<Vec<IaAsked>, NoMemory>
-    ensures { IfOk result (λ ias. map asked_content ias.items ≡ saying.ias_said kind scope asks.now (option_map lease6_content kept.now) (map asked_content stood.now)) }
+    ensures { IfOk result
+        (λ ias. map asked_content ias.items
+        ≡ saying.ias_said kind scope asks.now (option_map lease6_content kept.now) (map asked_content stood.now)) }
 {
     match kind {
         Kind6::Solicit => ias_solicited(alloc, asks),
@@ -48,7 +50,9 @@ fn ias_said(
 }
 
 fn lease_server(alloc: Global, kept: &Option<Lease6>) -> Result<Option<Duid>, NoMemory>
-    ensures { IfOk result (λ server. option_map (λ server. server.bytes.items) server ≡ saying.lease_server (option_map lease6_content kept.now)) }
+    ensures { IfOk result
+        (λ server. option_map (λ server. server.bytes.items) server
+        ≡ saying.lease_server (option_map lease6_content kept.now)) }
 {
     match kept {
         Some(lease) => Ok(Some(duid_copied(alloc, &lease.server)?)),
@@ -57,7 +61,9 @@ fn lease_server(alloc: Global, kept: &Option<Lease6>) -> Result<Option<Duid>, No
 }
 
 fn plea_server(alloc: Global, plea: &Option<Plea6>) -> Result<Option<Duid>, NoMemory>
-    ensures { IfOk result (λ server. option_map (λ server. server.bytes.items) server ≡ saying.plea_server (option_map plea_content plea.now)) }
+    ensures { IfOk result
+        (λ server. option_map (λ server. server.bytes.items) server
+        ≡ saying.plea_server (option_map plea_content plea.now)) }
 {
     match plea {
         Some(plea) => Ok(Some(duid_copied(alloc, &plea.server)?)),
@@ -67,7 +73,9 @@ fn plea_server(alloc: Global, plea: &Option<Plea6>) -> Result<Option<Duid>, NoMe
 
 /// The server that is spoken to.
 fn server_said(alloc: Global, kind: Kind6, leases: &Leases6) -> Result<Option<Duid>, NoMemory>
-    ensures { IfOk result (λ server. option_map (λ server. server.bytes.items) server ≡ saying.server_said kind (kept_in leases.now) (plea_in leases.now)) }
+    ensures { IfOk result
+        (λ server. option_map (λ server. server.bytes.items) server
+        ≡ saying.server_said kind (kept_in leases.now) (plea_in leases.now)) }
 {
     match kind {
         Kind6::Solicit | Kind6::Rebind => Ok(None),
@@ -95,7 +103,9 @@ pub(crate) fn spoken_by(
     say: Say6,
 ) -> Result<Said6, NoMemory>
     requires { length asks.now ≤ 6 }
-    ensures { IfOk result (λ said. saying.spoken_content said ≡ saying.spoken_by rapid scope asks.now (kept_in leases.now) (plea_in leases.now) say) }
+    ensures { IfOk result
+        (λ said. saying.spoken_content said
+        ≡ saying.spoken_by rapid scope asks.now (kept_in leases.now) (plea_in leases.now) say) }
 {
     let stood = plea_ias(&leases.plea);
     let ias = ias_said(alloc, say.kind, scope, &leases.kept, stood, asks)?;

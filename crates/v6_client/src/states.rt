@@ -32,8 +32,8 @@ pub enum State6 {
     Rebinding {
         exchange: Exchange6,
     },
-    /// Any server is asked, until `end`, for the items of the kept lease that were valid at `since`. Where the client stands on
-    /// the lease they are held.
+    /// Any server is asked, until `end`, for the items of the kept lease that were valid at `since`. Where the client
+    /// stands on the lease they are held.
     Restarting {
         exchange: Exchange6,
         end: u64,
@@ -58,8 +58,8 @@ pub enum News6 {
     Renew,
     /// They were extended by some server.
     Rebind,
-    /// The kept lease changed, and no other news tells it: its items are held from now on, some of them went, or it isn't kept any
-    /// more.
+    /// The kept lease changed, and no other news tells it: its items are held from now on, some of them went, or it
+    /// isn't kept any more.
     Changed,
     /// None is held any more.
     Expire,
@@ -118,8 +118,8 @@ pub struct Parting6 {
     pub stays: bool,
 }
 
-/// The moments of the client's items: when they are renewed, when they are rebound, and when the first of them isn't valid any
-/// more.
+/// The moments of the client's items: when they are renewed, when they are rebound, and when the first of them isn't
+/// valid any more.
 #[derive(Clone, Copy, PartialEq, Eq)]
 pub struct Dates6 {
     pub t1: Option<u64>,

@@ -88,7 +88,9 @@ impl Taking6 {
     /// The item changes its moments, or comes last, unless there are four.
     fn set(&mut self, at: u64, said: ItemSaid) -> Result<(), NoMemory>
         requires { IsMoment at }
-        ensures { OnOk result (taking_content self.new ≡ taking.placed at said (taking.place_of said.net self.old.items.items) (taking_content self.old)) }
+        ensures { OnOk result
+            (taking_content self.new
+            ≡ taking.placed at said (taking.place_of said.net self.old.items.items) (taking_content self.old)) }
     {
         match place_of(said.net, &self.items) {
             Some(place) => {
@@ -106,7 +108,8 @@ impl Taking6 {
 
     /// The item goes.
     fn take_out(&mut self, net: Net6)
-        ensures items { self.new.items.items ≡ taking.taken_out (taking.place_of net self.old.items.items) self.old.items.items }
+        ensures items { self.new.items.items
+            ≡ taking.taken_out (taking.place_of net self.old.items.items) self.old.items.items }
         ensures shortest { self.new.shortest ≡ self.old.shortest }
     {
         if let Some(place) = place_of(net, &self.items) {
@@ -215,7 +218,8 @@ fn ia_taken(
     items: &[Item6],
 ) -> Result<Taking6, NoMemory>
     requires { IsMoment at }
-    ensures taken { IfOk result (λ taken. taking_content taken ≡ taking.ia_taken at scope (option_map ia_shown ia.entry) items.now) }
+    ensures taken { IfOk result
+        (λ taken. taking_content taken ≡ taking.ia_taken at scope (option_map ia_shown ia.entry) items.now) }
     ensures timed { OnOk result (AreTimed (saids_of (option_map ia_shown ia.entry))) }
 {
     let saids = saids_of(alloc, ia)?;
@@ -234,7 +238,10 @@ fn taken_by(
     ia: Option<IaView>,
 ) -> Result<Taking6, NoMemory>
     requires { IsMoment meeting.at }
-    ensures taken { IfOk result (λ taken. taking_content taken ≡ taking.ia_taken meeting.entry.at meeting.entry.scope (option_map ia_shown ia.entry) (asked_in meeting.entry ask)) }
+    ensures taken { IfOk result
+        (λ taken. taking_content taken
+        ≡ taking.ia_taken meeting.entry.at meeting.entry.scope (option_map ia_shown ia.entry)
+        (asked_in meeting.entry ask)) }
     ensures timed { OnOk result (AreTimed (saids_of (option_map ia_shown ia.entry))) }
 {
     let items = asked_at(ask, ias_of(meeting.kept));
@@ -246,8 +253,11 @@ impl Granting6 {
     fn add(&mut self, alloc: Global, meeting: Meeting6, ask: IaAsk) -> Result<(), NoMemory>
         requires at { IsMoment meeting.at }
         requires short { IfSome self.old.spans AreShort }
-        ensures ias { OnOk result (ias_content self.new.ias.items ≡ ias_content self.old.ias.items ++ taking.ia_granted (meeting_shown meeting.entry) ask) }
-        ensures spans { OnOk result (self.new.spans ≡ joined self.old.spans (taking.ia_spans (meeting_shown meeting.entry) ask)) }
+        ensures ias { OnOk result
+            (ias_content self.new.ias.items
+            ≡ ias_content self.old.ias.items ++ taking.ia_granted (meeting_shown meeting.entry) ask) }
+        ensures spans { OnOk result
+            (self.new.spans ≡ joined self.old.spans (taking.ia_spans (meeting_shown meeting.entry) ask)) }
         ensures short { OnOk result (IfSome self.new.spans AreShort) }
         ensures timed { OnOk result (IsTimedFor (meeting_shown meeting.entry) ask) }
     {
@@ -261,7 +271,8 @@ impl Granting6 {
 /// Takes what the Reply has for the IAs that are asked for.
 fn granted_by(alloc: Global, meeting: Meeting6, asks: &[IaAsk]) -> Result<Granting6, NoMemory>
     requires { IsMoment meeting.at }
-    ensures ias { IfOk result (λ granting. ias_content granting.ias.items ≡ taking.ias_granted (meeting_shown meeting.entry) asks.now) }
+    ensures ias { IfOk result
+        (λ granting. ias_content granting.ias.items ≡ taking.ias_granted (meeting_shown meeting.entry) asks.now) }
     ensures spans { IfOk result (λ granting. granting.spans ≡ taking.spans_granted (meeting_shown meeting.entry) asks.now) }
     ensures short { IfOk result (λ granting. IfSome granting.spans AreShort) }
     ensures timed { OnOk result (AllByRecursion (IsTimedFor (meeting_shown meeting.entry)) asks.now) }
@@ -299,7 +310,8 @@ fn push_value(
     code: u16,
     bytes: &[u8],
 ) -> Result<(), NoMemory>
-    ensures { OnOk result (values_content values.new.items ≡ values_content values.old.items ++ taking.value_granted code bytes.now) }
+    ensures { OnOk result
+        (values_content values.new.items ≡ values_content values.old.items ++ taking.value_granted code bytes.now) }
 {
     if is_well_formed6(alloc, code, bytes)? {
         let bytes = Vec::from_slice(alloc, bytes)?;
@@ -331,7 +343,10 @@ pub(crate) fn lease_granted(
     requires asks { FitsAsks asks.now }
     requires kept { IfSome (option_map lease6_content meeting.kept.now) FitsLease6 }
     ensures fits { IfOk result (λ lease. IfSome (option_map lease6_content lease) FitsLease6) }
-    ensures lease { IfOk result (λ lease. option_map lease6_content lease ≡ taking.lease_granted iface server.bytes.items (message_shown meeting.entry.message.now) (meeting_shown meeting.entry) asks.now) }
+    ensures lease { IfOk result
+        (λ lease. option_map lease6_content lease
+        ≡ taking.lease_granted iface server.bytes.items (message_shown meeting.entry.message.now)
+        (meeting_shown meeting.entry) asks.now) }
 {
     let granting = granted_by(alloc, meeting, asks)?;
     if granting.ias.is_empty() {

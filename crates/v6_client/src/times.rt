@@ -11,14 +11,15 @@ use machine::draw;
 pub const SECOND: u64 = 1000;
 /// A lifetime of so many seconds never ends (RFC 8415, section 7.7).
 pub const FOREVER: u32 = 0xffff_ffff;
-/// The delay of the first SOLICIT is up to a second: one of so many milliseconds (SOL_MAX_DELAY, RFC 8415, section 18.2.1).
+/// The delay of the first SOLICIT is up to a second: one of so many milliseconds (SOL_MAX_DELAY, RFC 8415, section
+/// 18.2.1).
 pub const DELAY_SPREAD: u32 = 1001;
 /// For so many milliseconds the items of the kept lease are asked for again.
 pub const RESTART_TIME: u64 = 10_000;
 /// The least time until items are renewed or rebound.
 pub const LEAST_TIME: u64 = 10_000;
-/// Of a second of the shortest preferred lifetime: when items are renewed where the server leaves it to the client, and when
-/// they are rebound (RFC 8415, section 14.2).
+/// Of a second of the shortest preferred lifetime: when items are renewed where the server leaves it to the client, and
+/// when they are rebound (RFC 8415, section 14.2).
 pub const T1_PART: u64 = 500;
 
 pub const T2_PART: u64 = 800;

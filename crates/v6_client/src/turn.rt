@@ -2,8 +2,8 @@
 
 use crate::settings::Site6;
 
-/// The settings, the transaction id of the last exchange, the longest time between two SOLICITs in milliseconds, the moment,
-/// and the salt of the turn.
+/// The settings, the transaction id of the last exchange, the longest time between two SOLICITs in milliseconds, the
+/// moment, and the salt of the turn.
 #[derive(Clone, Copy, PartialEq, Eq)]
 pub struct Turn6 {
     pub site: Site6,

@@ -1,4 +1,5 @@
--- At which moments a row of the table of ticks fits (RFC 8415, section 18.2), apart from when the client asks to be woken.
+-- At which moments a row of the table of ticks fits (RFC 8415, section 18.2), apart from when the client asks to be
+-- woken.
 use Rattle.std.specs.Prelude.{◌≡◌, ℕ, ◌≤◌, ◌⊎◌, true, false, List, max, Option, Some, None}
 use Rattle.std.specs.List.{Contains}
 use Rattle.machine.specs.Moment.{is_due}
@@ -45,18 +46,20 @@ pub record IsOver (kept : Option Lease6Content) (asks : List IaAsk) (scope : Sco
 abbrev pub RestartFits : Option Lease6Content → List IaAsk → Scope6 → (due end at : ℕ) → Type 0
 RestartFits kept asks scope due end at = (due ≤ at) ⊎ ((end ≤ at) ⊎ IsOver kept asks scope at)
 
--- The first SOLICIT; the message of an exchange, or what comes after it; T1; T2; the end of an item; the end of the attempt to have
--- the kept items again.
+-- The first SOLICIT; the message of an exchange, or what comes after it; T1; T2; the end of an item; the end of the
+-- attempt to have the kept items again.
 abbrev pub RowFits : Option Lease6Content → List IaAsk → State6 → (at : ℕ) → Type 0
 RowFits kept asks Off at = ⊥
 RowFits kept asks (Waiting due) at = due ≤ at
 RowFits kept asks (Soliciting exchange offer) at = exchange.due ≤ at
 RowFits kept asks (Requesting exchange) at = exchange.due ≤ at
 RowFits kept asks Bound at = HasCome (t1_of kept) at ⊎ (HasCome (t2_of kept) at ⊎ IsOver kept asks scope.All at)
-RowFits kept asks (Renewing exchange) at = (exchange.due ≤ at) ⊎ (HasCome (t2_of kept) at ⊎ IsOver kept asks scope.All at)
+RowFits kept asks (Renewing exchange) at =
+    (exchange.due ≤ at) ⊎ (HasCome (t2_of kept) at ⊎ IsOver kept asks scope.All at)
 RowFits kept asks (Rebinding exchange) at = (exchange.due ≤ at) ⊎ IsOver kept asks scope.All at
 RowFits kept asks (Restarting exchange end since true) at = RestartFits kept asks scope.All exchange.due end at
-RowFits kept asks (Restarting exchange end since false) at = RestartFits kept asks (scope.Since since) exchange.due end at
+RowFits kept asks (Restarting exchange end since false) at =
+    RestartFits kept asks (scope.Since since) exchange.due end at
 RowFits kept asks (Declining exchange) at = (exchange.due ≤ at) ⊎ IsOver kept asks scope.All at
 
 abbrev pub FitsAt : ClientContent → (at : ℕ) → Type 0
@@ -92,7 +95,8 @@ pub record Rests (at salt : ℕ) (c : ClientContent) : Type 0 where
   pub news : (tick_step at salt c).news ≡ news.Nothing
   pub items : lapsed at (parting_at (Lapse at) c) c ≡ c
 
--- where the client waits for more than one thing the table itself looks at the moment; elsewhere a tick comes when it is due alone
+-- where the client waits for more than one thing the table itself looks at the moment; elsewhere a tick comes when it
+-- is due alone
 abbrev pub LooksAtMoments : State6 → Type 0
 LooksAtMoments Off = Unit {0}
 LooksAtMoments (Waiting due) = ⊥
@@ -109,4 +113,5 @@ RestsElsewhere = (c : ClientContent) (at salt : ℕ) → LooksAtMoments c.state 
 
 -- So no row of the table fits before the client's moment.
 abbrev pub RestsBefore : Type 0
-RestsBefore = (c : ClientContent) (at salt : ℕ) → LooksAtMoments c.state → is_due (due_of c) at ≡ false → Rests at salt c
+RestsBefore =
+    (c : ClientContent) (at salt : ℕ) → LooksAtMoments c.state → is_due (due_of c) at ≡ false → Rests at salt c

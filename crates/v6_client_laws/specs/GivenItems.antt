@@ -1,5 +1,5 @@
--- What a server's message gives of an IA (RFC 8415, sections 18.2.10.1, 21.4, 21.6, 21.13 and 21.22), in other words than the client
--- reads it by.
+-- What a server's message gives of an IA (RFC 8415, sections 18.2.10.1, 21.4, 21.6, 21.13 and 21.22), in other words
+-- than the client reads it by.
 use Rattle.std.specs.Prelude.{◌≡◌, ℕ, ◌+◌, ◌-◌, ◌*◌, ◌<◌, ◌≤◌, ◌^◌, ◌⊎◌, suc, List, [], ◌∷◌, ◌++◌, length, Some}
 use Rattle.std.specs.List.{AllByRecursion, Contains}
 use Rattle.net_types.specs.declared.address.Ip6.{Ip6}
@@ -132,7 +132,8 @@ pub record Serves (asks : List IaAsk) (message : Content6) : Type 0 where
   pub went : message.status ≡ success
   pub ask : IaAsk
   pub asked : Contains asks ask
-  pub says : GivesSome ask.kind ask.iaid (ias_in message.options) ⊎ HasNoBinding ask.kind ask.iaid (ias_in message.options)
+  pub says : GivesSome ask.kind ask.iaid (ias_in message.options)
+      ⊎ HasNoBinding ask.kind ask.iaid (ias_in message.options)
 
 -- the server that a message is of, which a DUID tells: two bytes and at most 128 more (section 11.1)
 pub record NamesServer (message : Content6) (server : List ℕ) : Type 0 where

@@ -27,7 +27,8 @@ abbrev pub ItemsAreGiven : Type 0
 ItemsAreGiven = (ask : IaAsk) (ias : List IaContent) (held : ItemSaid) → ReadsItems ask ias held
 
 abbrev pub BindingsAreKnown : Type 0
-BindingsAreKnown = (ask : IaAsk) (ias : List IaContent) → Decides (is_unbound (ia_for ask ias)) (HasNoBinding ask.kind ask.iaid ias)
+BindingsAreKnown =
+    (ask : IaAsk) (ias : List IaContent) → Decides (is_unbound (ia_for ask ias)) (HasNoBinding ask.kind ask.iaid ias)
 
 abbrev pub MessagesServe : Type 0
 MessagesServe = (asks : List IaAsk) (message : Content6) → Decides (serves asks message) (Serves asks message)
@@ -75,5 +76,6 @@ pub record IsGranted (at : ℕ) (c : ClientContent) (message : Content6) (lease 
 
 -- so the lease that a Reply grants
 abbrev pub LeasesAreGranted : Type 0
-LeasesAreGranted = (at : ℕ) (c : ClientContent) (message : Content6) (lease : Lease6Content) → fresh_in at c message ≡ Some lease
+LeasesAreGranted =
+    (at : ℕ) (c : ClientContent) (message : Content6) (lease : Lease6Content) → fresh_in at c message ≡ Some lease
     → IsGranted at c message lease

@@ -34,22 +34,28 @@ pub record HasItem (net : Net6) (items before after : List Item6) : Type 0 where
   pub cut : items ≡ before ++ item ∷ after
   pub first : HasNone net before
 
--- From the items that there were to those that are held; `set` are those of the Reply that were held in between. One with a valid
--- lifetime of 0 goes; one that is there gets the new lifetimes; another one comes last, where there are fewer than four.
+-- From the items that there were to those that are held; `set` are those of the Reply that were held in between. One
+-- with a valid lifetime of 0 goes; one that is there gets the new lifetimes; another one comes last, where there are
+-- fewer than four.
 pub data Takes (at : ℕ) : List Item6 → List ItemSaid → List Item6 → List ItemSaid → Type 0 where
   ends : (had : List Item6) → Takes at had [] had []
   goes : (had before after held : List Item6) (said : ItemSaid) (saids set : List ItemSaid) → said.valid ≡ 0
-      → HasItem said.net had before after → Takes at (before ++ after) saids held set → Takes at had (said ∷ saids) held set
-  is_gone : (had held : List Item6) (said : ItemSaid) (saids set : List ItemSaid) → said.valid ≡ 0 → HasNone said.net had
+      → HasItem said.net had before after → Takes at (before ++ after) saids held set
+      → Takes at had (said ∷ saids) held set
+  is_gone : (had held : List Item6) (said : ItemSaid) (saids set : List ItemSaid) → said.valid ≡ 0
+      → HasNone said.net had
       → Takes at had saids held set → Takes at had (said ∷ saids) held set
-  lasts : (had before after held : List Item6) (said : ItemSaid) (item : Item6) (saids set : List ItemSaid) → said.valid ≢ 0
+  lasts : (had before after held : List Item6) (said : ItemSaid) (item : Item6) (saids set : List ItemSaid)
+      → said.valid ≢ 0
       → HasItem said.net had before after → IsFrom at said item → Takes at (before ++ item ∷ after) saids held set
       → Takes at had (said ∷ saids) held (said ∷ set)
   comes : (had held : List Item6) (said : ItemSaid) (item : Item6) (saids set : List ItemSaid) → said.valid ≢ 0
-      → HasNone said.net had → length had < most_items → IsFrom at said item → Takes at (had ++ item ∷ []) saids held set
+      → HasNone said.net had → length had < most_items → IsFrom at said item
+      → Takes at (had ++ item ∷ []) saids held set
       → Takes at had (said ∷ saids) held (said ∷ set)
   finds_no_room : (had held : List Item6) (said : ItemSaid) (saids set : List ItemSaid) → said.valid ≢ 0
-      → HasNone said.net had → most_items ≤ length had → Takes at had saids held set → Takes at had (said ∷ saids) held set
+      → HasNone said.net had → most_items ≤ length had → Takes at had saids held set
+      → Takes at had (said ∷ saids) held set
 
 -- a preferred lifetime of some of these
 pub record IsPreferredFor (saids : List ItemSaid) (seconds : ℕ) : Type 0 where

@@ -1,5 +1,5 @@
-//! What a Reply gives, and when a DHCPv6 client acts next, told in other words than the client's own, and the laws that both say
-//! the same.
+//! What a Reply gives, and when a DHCPv6 client acts next, told in other words than the client's own, and the laws that
+//! both say the same.
 #![tactic(auto)]
 
 mod laws;

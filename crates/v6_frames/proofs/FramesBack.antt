@@ -22,7 +22,8 @@ use Rattle.v6_frames.specs.Laws.{ReadsBack, SpellsOne, SpelledAlone, FitsDatagra
 module _ (from to : Ip6) (payload : List ℕ) where
   abbrev pub to_servers : (mac : List ℕ) → List ℕ
   to_servers mac =
-      udp6_frame_text (record { from_mac = record { bytes = mac }; to_mac = ALL_RELAY_AGENTS_AND_SERVERS_MAC; from = from; to = to }) CLIENT_PORT SERVER_PORT payload
+      udp6_frame_text
+      (record { from_mac = record { bytes = mac }; to_mac = ALL_RELAY_AGENTS_AND_SERVERS_MAC; from = from; to = to }) CLIENT_PORT SERVER_PORT payload
 
   pub record IsFrame (mac : List ℕ) : Type 0 where
     pub payload_is : drop 62 (to_servers mac) ≡ payload
@@ -58,7 +59,8 @@ some_is a b e = cc
 pub spells_one : SpellsOne
 spells_one a b a_fits b_fits same = some_is a b (sym (reads_back a a_fits) ∙ ap sent6_in same ∙ reads_back b b_fits)
 
-if_same : (frame : List ℕ) (s sent : Sent6) (same : Bool) → (same ≡ true → frame ≡ frame6_of s) → (if same then Some s else None) ≡ Some sent → frame ≡ frame6_of sent
+if_same : (frame : List ℕ) (s sent : Sent6) (same : Bool) → (same ≡ true → frame ≡ frame6_of s) → (if same then Some s else None) ≡ Some sent
+    → frame ≡ frame6_of sent
 if_same frame s sent true is e = is refl ∙ ap frame6_of (some_is s sent e)
 if_same frame s sent false is e = absurd cc
 

@@ -1,5 +1,5 @@
--- What a frame has for a client (RFC 8415, sections 7.2 and 18.2.9): a server's message to the interface's own addresses, and to
--- the client's port.
+-- What a frame has for a client (RFC 8415, sections 7.2 and 18.2.9): a server's message to the interface's own
+-- addresses, and to the client's port.
 use Rattle.std.specs.Prelude.{ℕ, Bool, List, Option, None, bytes_eq, ◌==◌, ◌&&◌, if◌then◌else◌}
 use Rattle.std.specs.Option.{option_map, option_and_then}
 use Rattle.net_types.specs.declared.address.Mac.{Mac}
@@ -33,10 +33,12 @@ abbrev pub with_source : Mac → Content6 → HeardMessage6
 with_source source message = record { source = source; message = message }
 
 abbrev pub message_to : Mac → (source : Mac) → Udp6 → Option HeardMessage6
-message_to mac source datagram = if is_to mac datagram then option_map (with_source source) (message6_in datagram.payload) else None
+message_to mac source datagram =
+    if is_to mac datagram then option_map (with_source source) (message6_in datagram.payload) else None
 
 abbrev pub message_for : Mac → Frame → Option HeardMessage6
-message_for mac frame = if is_for mac frame then option_and_then (message_to mac frame.from) (udp6_in frame.body) else None
+message_for mac frame =
+    if is_for mac frame then option_and_then (message_to mac frame.from) (udp6_in frame.body) else None
 
 -- what the interface with this hardware address hears in a frame
 unfoldable pub heard6_in : Mac → (frame : List ℕ) → Option HeardMessage6

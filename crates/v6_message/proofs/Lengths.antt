@@ -61,7 +61,8 @@ ias_short (ia ∷ ias) =
 
 -- the options of a message together
 all_options : (client elapsed : List ℕ) (server rapid ias last : List Instance)
-    → total ((1, client) ∷ (server ++ ((8, elapsed) ∷ (rapid ++ (ias ++ last))))) ≡ 8 + length client + length elapsed + total server + total rapid + total ias + total last
+    → total ((1, client) ∷ (server ++ ((8, elapsed) ∷ (rapid ++ (ias ++ last)))))
+    ≡ 8 + length client + length elapsed + total server + total rapid + total ias + total last
 all_options client elapsed server rapid ias last =
     let one = total_append server ((8, elapsed) ∷ (rapid ++ (ias ++ last))) in
     let two = total_append rapid (ias ++ last) in
@@ -79,9 +80,11 @@ pub said_short : (said : Said6) (client : Duid) → length (message6_text (said_
 said_short said client =
     let content = said_content said client in
     let text = length (options_text (said_options content)) in
-    let sum = least_sum (total (said_options content)) text (length client.bytes.items) 2 (total (server_options content.server)) (total (rapid_options said.rapid))
+    let sum =
+    least_sum (total (said_options content)) text (length client.bytes.items) 2 (total (server_options content.server)) (total (rapid_options said.rapid))
     (total (map ia_option content.ias)) (total (wanted_in said.kind)) (length said.ias.items)
     (total_is (said_options content))
-    (all_options client.bytes.items (word_text said.elapsed) (server_options content.server) (rapid_options said.rapid) (map ia_option content.ias) (wanted_in said.kind))
+    (all_options client.bytes.items (word_text said.elapsed) (server_options content.server) (rapid_options said.rapid) (map ia_option content.ias)
+    (wanted_in said.kind))
     client.most refl (server_short said.server) (rapid_short said.rapid) (ias_short said.ias.items) (few_ias said) (wanted_short said.kind) in
     omega (arith, sum)

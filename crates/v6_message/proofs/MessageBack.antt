@@ -36,7 +36,8 @@ no_server Release = refl
 no_server Decline = refl
 
 -- the highest of four bytes is 0
-low_bytes : (xid : ℕ) → xid < 2 ^ 24 → xid_in (message6_text (record { kind = Solicit; xid = xid; client = []; server = None; elapsed = 0; rapid = false; ias = [] })) ≡ xid
+low_bytes : (xid : ℕ) → xid < 2 ^ 24
+    → xid_in (message6_text (record { kind = Solicit; xid = xid; client = []; server = None; elapsed = 0; rapid = false; ias = [] })) ≡ xid
 low_bytes xid h = omega arith
 
 xid_back : (said : SaidContent) → said.xid < 2 ^ 24 → xid_in (message6_text said) ≡ said.xid
@@ -50,7 +51,8 @@ seems_said said fits =
     let elapsed : List ℕ = word_text said.elapsed in
     let server : first_of 2 (instances_in (options_area message)) ≡ said.server =
     ap (first_of 2) found ∙ server_back said.client elapsed said.ias said.kind said.server said.rapid in
-    let client : unwrap_or (first_of 1 (instances_in (options_area message))) [] ≡ said.client = ap (λ (is : List Instance). unwrap_or (first_of 1 is) []) found in
+    let client : unwrap_or (first_of 1 (instances_in (options_area message))) [] ≡ said.client =
+    ap (λ (is : List Instance). unwrap_or (first_of 1 is) []) found in
     let time : word_in 0 (unwrap_or (first_of 8 (instances_in (options_area message))) []) ≡ said.elapsed =
     ap (λ (is : List Instance). word_in 0 (unwrap_or (first_of 8 is) [])) found
     ∙ ap (λ (o : Option (List ℕ)). word_in 0 (unwrap_or o [])) (elapsed_back said.client elapsed said.ias said.kind said.server said.rapid)
@@ -85,7 +87,8 @@ some_is a b e = cc
 pub is_one : (a b : SaidContent) → FitsSaid a → FitsSaid b → message6_text a ≡ message6_text b → a ≡ b
 is_one a b a_fits b_fits same = some_is a b (sym (is_read a a_fits) ∙ ap said6_in same ∙ is_read b b_fits)
 
-only_if : (message : List ℕ) (seen : Option SaidContent) (said : SaidContent) → option_and_then (if_spelled message) seen ≡ Some said → message ≡ message6_text said
+only_if : (message : List ℕ) (seen : Option SaidContent) (said : SaidContent) → option_and_then (if_spelled message) seen ≡ Some said
+    → message ≡ message6_text said
 only_if message None said e = absurd cc
 only_if message (Some s) said e = by_test (bytes_eq message (message6_text s)) (bytes_eq-Decides message (message6_text s)).0 e
   where

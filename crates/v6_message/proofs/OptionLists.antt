@@ -19,7 +19,8 @@ texts_more F G start xs i d h =
     append_assoc start (options_text (map F (map G (take i xs)))) (options_text (F (G (get_or xs i d)) ∷ []))
     ∙ ap (λ (text : List ℕ). start ++ text) (
     sym (texts_append (map F (map G (take i xs))) (F (G (get_or xs i d)) ∷ []))
-    ∙ ap options_text (sym (ap (map F) (ap (map G) (take_more xs i d h) ∙ map_push G (take i xs) (get_or xs i d)) ∙ map_push F (map G (take i xs)) (G (get_or xs i d)))))
+    ∙ ap options_text
+    (sym (ap (map F) (ap (map G) (take_more xs i d h) ∙ map_push G (take i xs) (get_or xs i d)) ∙ map_push F (map G (take i xs)) (G (get_or xs i d)))))
 
 -- each item takes as many bytes
 items_len : (kind : IaKind) (items : List Net6) → length (options_text (map (item_of kind) items)) ≡ length items * item_len kind
@@ -36,7 +37,8 @@ texts_joined start xs ys =
     append_assoc start (options_text xs) (options_text ys) ∙ ap (λ (text : List ℕ). start ++ text) (sym (texts_append xs ys))
 
 pub message_joined : (start : List ℕ) (client elapsed : Instance) (server rapid ias last : List Instance)
-    → (((((start ++ options_text (client ∷ [])) ++ options_text server) ++ options_text (elapsed ∷ [])) ++ options_text rapid) ++ options_text ias) ++ options_text last
+    → (((((start ++ options_text (client ∷ [])) ++ options_text server) ++ options_text (elapsed ∷ [])) ++ options_text rapid) ++ options_text ias)
+    ++ options_text last
     ≡ start ++ options_text (client ∷ (server ++ (elapsed ∷ (rapid ++ (ias ++ last)))))
 message_joined start client elapsed server rapid ias last =
     let first = start ++ options_text (client ∷ []) in

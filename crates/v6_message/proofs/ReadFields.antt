@@ -37,7 +37,8 @@ item_back Pd net fits =
     ap (λ (s : ℕ). if s == 0 then Some (prefix_in (item_of Pd net).1) else None) status_of_nothing
     ∙ (λ i. Some (record { net = record { ip = record { number = wide_back net.ip.number fits.0 i }; len = net.len }; preferred = 0; valid = 0 }))
 
-items_back : (kind : IaKind) (items : List Net6) → AllByRecursion (FitsNet kind) items → filter_map (item_by kind) (map (item_of kind) items) ≡ map item_said items
+items_back : (kind : IaKind) (items : List Net6) → AllByRecursion (FitsNet kind) items
+    → filter_map (item_by kind) (map (item_of kind) items) ≡ map item_said items
 items_back kind [] p = refl
 items_back kind (net ∷ items) p = λ i. cons_option (item_back kind net p.0 i) (items_back kind items p.1 i)
 
@@ -59,8 +60,10 @@ in_back : (kind : IaKind) (iaid : ℕ) (items : List Net6) → iaid < 2 ^ 32 →
     → ia_in kind (ia_value (record { kind = kind; iaid = iaid; items = items })) ≡ ia_said (record { kind = kind; iaid = iaid; items = items })
 in_back kind iaid items iaid_fits fit =
     let found = texts_found (map (item_of kind) items) (items_spelled kind items fit) in
-    let status : status_in (options_text (map (item_of kind) items)) ≡ 0 = ap (λ (is : List Instance). status_by (first_of 13 is)) found ∙ ap status_by (no_status kind items) in
-    let read : items_in kind (options_text (map (item_of kind) items)) ≡ map item_said items = ap (filter_map (item_by kind)) found ∙ items_back kind items fit in
+    let status : status_in (options_text (map (item_of kind) items)) ≡ 0 =
+    ap (λ (is : List Instance). status_by (first_of 13 is)) found ∙ ap status_by (no_status kind items) in
+    let read : items_in kind (options_text (map (item_of kind) items)) ≡ map item_said items =
+    ap (filter_map (item_by kind)) found ∙ items_back kind items fit in
     λ i. record {
       kind = kind;
       iaid = from_be_bytes-to_be_bytes_4 iaid iaid_fits i;
@@ -91,7 +94,8 @@ past_ia : (code : ℕ) (kind : IaKind) (iaid : ℕ) (items : List Net6) (more : 
 past_ia code Na iaid items more no_na no_pd = rw no_na refl
 past_ia code Pd iaid items more no_na no_pd = rw no_pd refl
 
-past_ias : (code : ℕ) (ias : List AskedContent) (more : List Instance) → eqb 3 code ≡ false → eqb 25 code ≡ false → first_of code (map ia_option ias ++ more) ≡ first_of code more
+past_ias : (code : ℕ) (ias : List AskedContent) (more : List Instance) → eqb 3 code ≡ false → eqb 25 code ≡ false
+    → first_of code (map ia_option ias ++ more) ≡ first_of code more
 past_ias code [] more no_na no_pd = refl
 past_ias code (ia ∷ ias) more no_na no_pd =
     past_ia code ia.kind ia.iaid ia.items (map ia_option ias ++ more) no_na no_pd ∙ past_ias code ias more no_na no_pd

@@ -107,5 +107,9 @@ said_spelled said fits =
     let rapid = spelled_append (rapid_options said.rapid) (map ia_option said.ias ++ wanted_in said.kind) (rapid_spelled said.rapid) last in
     let elapsed : IsSpelled (8, word_text said.elapsed) = record { fits = (omega arith, omega arith, refl); held = λ at. refl } in
     let client : IsSpelled (1, said.client) = record { fits = (omega arith, omega (arith, fits.client), refl); held = λ at. refl } in
-    let after : AreSpelled ((8, word_text said.elapsed) ∷ (rapid_options said.rapid ++ (map ia_option said.ias ++ wanted_in said.kind))) = (elapsed, rapid) in
-    (client, spelled_append (server_options said.server) ((8, word_text said.elapsed) ∷ (rapid_options said.rapid ++ (map ia_option said.ias ++ wanted_in said.kind))) (server_spelled said.server fits.server) after)
+    let after : AreSpelled ((8, word_text said.elapsed) ∷ (rapid_options said.rapid ++ (map ia_option said.ias ++ wanted_in said.kind))) = (elapsed, rapid) in (
+      client,
+      spelled_append (server_options said.server)
+          ((8, word_text said.elapsed) ∷ (rapid_options said.rapid ++ (map ia_option said.ias ++ wanted_in said.kind)))
+          (server_spelled said.server fits.server) after,
+    )

@@ -30,8 +30,8 @@ pub enum Bad6 {
     /// There are fewer bytes than a type and a transaction ID take.
     #[error("Short")]
     Short,
-    /// The first option, at any depth, that runs past what holds it, has no room for its fixed fields or a prefix of more
-    /// than 128 bits stands at this byte.
+    /// The first option, at any depth, that runs past what holds it, has no room for its fixed fields or a prefix of
+    /// more than 128 bits stands at this byte.
     #[error("Malformed")]
     Malformed { place: usize },
     /// The type is neither ADVERTISE nor REPLY.

@@ -104,7 +104,8 @@ fn ia_len(ia: &IaAsked) -> u16
 }
 
 fn put_ia(message: &mut Vec<u8>, ia: &IaAsked) -> Result<(), AllocError>
-    ensures { OnOk result (message.new.items ≡ message.old.items ++ options_text (ia_option (asked_content ia.now) ∷ [])) }
+    ensures { OnOk result
+        (message.new.items ≡ message.old.items ++ options_text (ia_option (asked_content ia.now) ∷ [])) }
 {
     put_word(message, code_of(ia.kind))?;
     put_word(message, ia_len(ia))?;
@@ -114,7 +115,8 @@ fn put_ia(message: &mut Vec<u8>, ia: &IaAsked) -> Result<(), AllocError>
 }
 
 fn put_ias(message: &mut Vec<u8>, ias: &[IaAsked]) -> Result<(), AllocError>
-    ensures { OnOk result (message.new.items ≡ message.old.items ++ options_text (map ia_option (map asked_content ias.now))) }
+    ensures { OnOk result
+        (message.new.items ≡ message.old.items ++ options_text (map ia_option (map asked_content ias.now))) }
 {
     'ias: for ia in ias {
         put_ia(message, ia)?;
@@ -124,7 +126,9 @@ fn put_ias(message: &mut Vec<u8>, ias: &[IaAsked]) -> Result<(), AllocError>
 
 /// The server that is spoken to, where there is one.
 fn put_server(message: &mut Vec<u8>, server: &Option<Duid>) -> Result<(), AllocError>
-    ensures { OnOk result (message.new.items ≡ message.old.items ++ options_text (server_options (option_map (λ d. d.bytes.items) server.now))) }
+    ensures { OnOk result
+        (message.new.items
+        ≡ message.old.items ++ options_text (server_options (option_map (λ d. d.bytes.items) server.now))) }
 {
     match server {
         Some(server) => put_option(message, code::SERVER_IDENTIFIER, server.as_slice()),
@@ -175,7 +179,8 @@ fn put_header(message: &mut Vec<u8>, kind: Kind6, xid: u32) -> Result<(), AllocE
 
 /// The options of a message, in their order.
 fn put_options(message: &mut Vec<u8>, said: &Said6, client: &Duid) -> Result<(), AllocError>
-    ensures { OnOk result (message.new.items ≡ message.old.items ++ options_text (said_options (said_content said.now client.now))) }
+    ensures { OnOk result
+        (message.new.items ≡ message.old.items ++ options_text (said_options (said_content said.now client.now))) }
 {
     put_option(message, code::CLIENT_IDENTIFIER, client.as_slice())?;
     put_server(message, &said.server)?;

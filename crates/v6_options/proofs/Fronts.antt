@@ -88,7 +88,8 @@ instances_step : (area : List ℕ) → InstancesBy area (front_of area)
 unfolding instances_in
 instances_step [] = ap (λ (f : Front). instances_by f [] (λ (rest : List ℕ). instances_within (length rest) rest)) (sym front_nothing)
 instances_step (x ∷ area) =
-    same_instances (front_of (x ∷ area)) (x ∷ area) (instances_within (length area)) (λ (rest : List ℕ). instances_within (length rest) rest) (room_at (x ∷ area))
+    same_instances (front_of (x ∷ area)) (x ∷ area) (instances_within (length area)) (λ (rest : List ℕ). instances_within (length rest) rest)
+    (room_at (x ∷ area))
     (λ rest h. instances_enough (length area) (length rest) rest (omega arith) (omega arith))
 
 pub instances_front : (area : List ℕ) (front : Front) → front_of area ≡ front → InstancesBy area front
@@ -127,7 +128,8 @@ malformed_step : (at : ℕ) (area : List ℕ) → MalformedBy at area (front_of 
 unfolding malformed_in
 malformed_step at [] = ap (λ (f : Front). malformed_by f at [] (λ (n : ℕ) (rest : List ℕ). malformed_within (length rest) n rest)) (sym front_nothing)
 malformed_step at (x ∷ area) =
-    same_malformed (front_of (x ∷ area)) at (x ∷ area) (malformed_within (length area)) (λ (n : ℕ) (rest : List ℕ). malformed_within (length rest) n rest) (room_at (x ∷ area))
+    same_malformed (front_of (x ∷ area)) at (x ∷ area) (malformed_within (length area)) (λ (n : ℕ) (rest : List ℕ). malformed_within (length rest) n rest)
+    (room_at (x ∷ area))
     (λ n rest h. malformed_enough (length area) (length rest) n rest (omega arith) (omega arith))
 
 pub malformed_front : (at : ℕ) (area : List ℕ) (front : Front) → front_of area ≡ front → MalformedBy at area front

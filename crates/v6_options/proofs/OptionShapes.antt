@@ -74,7 +74,10 @@ with_plain code value rest fits none (inl whole) =
 with_plain code value rest fits none (inr broken) =
     let one = plain code value nothing in
     let text : tree_text one ≡ option_text code value = append-nil (option_text code value) in
-    inr (length (tree_text one) + broken.0, subst (λ (xs : List ℕ). Breaks (xs ++ rest) (length (tree_text one) + broken.0)) text (behind one (fits, none, tt) broken.1))
+    inr (
+      length (tree_text one) + broken.0,
+      subst (λ (xs : List ℕ). Breaks (xs ++ rest) (length (tree_text one) + broken.0)) text (behind one (fits, none, tt) broken.1),
+    )
 
 with_holder : (code : ℕ) (fields held rest : List ℕ) → FitsOption code (fields ++ held) → fields_len code ≡ Some (length fields)
     → Shape held → Shape rest → Shape (option_text code (fields ++ held) ++ rest)
@@ -85,11 +88,18 @@ with_holder code fields held rest fits e (inl inner) after =
   where
     by_after : FitsOption code (fields ++ tree_text inner.0) → Shape rest → Shape (option_text code (fields ++ tree_text inner.0) ++ rest)
     by_after fits (inl whole) =
-        inl (holder code fields inner.0 whole.0, ap (λ (xs : List ℕ). option_text code (fields ++ tree_text inner.0) ++ xs) whole.1, (fits, e, inner.2, whole.2))
+        inl (
+          holder code fields inner.0 whole.0,
+          ap (λ (xs : List ℕ). option_text code (fields ++ tree_text inner.0) ++ xs) whole.1,
+          (fits, e, inner.2, whole.2),
+        )
     by_after fits (inr broken) =
         let one = holder code fields inner.0 nothing in
         let text : tree_text one ≡ option_text code (fields ++ tree_text inner.0) = append-nil (option_text code (fields ++ tree_text inner.0)) in
-        inr (length (tree_text one) + broken.0, subst (λ (xs : List ℕ). Breaks (xs ++ rest) (length (tree_text one) + broken.0)) text (behind one (fits, e, inner.2, tt) broken.1))
+        inr (
+          length (tree_text one) + broken.0,
+          subst (λ (xs : List ℕ). Breaks (xs ++ rest) (length (tree_text one) + broken.0)) text (behind one (fits, e, inner.2, tt) broken.1),
+        )
 
 -- an option whose value has its form
 option_shape : (code : ℕ) (value rest : List ℕ) → FitsOption code value → AreBytes value

@@ -21,7 +21,8 @@ option_front code value more fits =
     header_front code (length value) (value ++ more) fits.0 fits.1
     ∙ rw (le-ltb (length (value ++ more)) (length value) (omega (arith, length-append value more)), take_at value more (length value) refl, fits.2) refl
 
-pub option_instances : (code : ℕ) (value more : List ℕ) → FitsOption code value → instances_in (option_text code value ++ more) ≡ (code, value) ∷ instances_in more
+pub option_instances : (code : ℕ) (value more : List ℕ) → FitsOption code value
+    → instances_in (option_text code value ++ more) ≡ (code, value) ∷ instances_in more
 option_instances code value more fits =
     instances_front (option_text code value ++ more) (Whole code (length value)) (option_front code value more fits)
     ∙ (λ i. (code, take_at value more (length value) refl i) ∷ instances_in (drop_at value more (length value) refl i))
@@ -55,10 +56,12 @@ held_is code at fields held e =
     ap (λ (f : Option ℕ). malformed_held f at (fields ++ held) malformed_in) e
     ∙ ap (malformed_in (at + 4 + length fields)) (drop_at fields held (length fields) refl)
 
-pub tree_passed : (at : ℕ) (tree : OptionTree) (rest : List ℕ) → FitsTree tree → malformed_in at (tree_text tree ++ rest) ≡ malformed_in (at + length (tree_text tree)) rest
+pub tree_passed : (at : ℕ) (tree : OptionTree) (rest : List ℕ) → FitsTree tree
+    → malformed_in at (tree_text tree ++ rest) ≡ malformed_in (at + length (tree_text tree)) rest
 tree_passed at nothing rest fit = ap (λ (n : ℕ). malformed_in n rest) (omega arith)
 tree_passed at (plain code value others) rest fit =
-    let places : at + 4 + length value + length (tree_text others) ≡ at + length (option_text code value ++ tree_text others) = omega (arith, length-append value (tree_text others)) in
+    let places : at + 4 + length value + length (tree_text others) ≡ at + length (option_text code value ++ tree_text others) =
+    omega (arith, length-append value (tree_text others)) in
     ap (malformed_in at) (append_assoc (option_text code value) (tree_text others) rest)
     ∙ option_malformed at code value (tree_text others ++ rest) fit.0
     ∙ ap (λ (f : Option ℕ). or_else (malformed_held f at value malformed_in) (malformed_in (at + 4 + length value) (tree_text others ++ rest))) fit.1
@@ -66,7 +69,8 @@ tree_passed at (plain code value others) rest fit =
     ∙ ap (λ (n : ℕ). malformed_in n rest) places
 tree_passed at (holder code fields held others) rest fit =
     let value = fields ++ tree_text held in
-    let places : at + 4 + length value + length (tree_text others) ≡ at + length (option_text code value ++ tree_text others) = omega (arith, length-append value (tree_text others)) in
+    let places : at + 4 + length value + length (tree_text others) ≡ at + length (option_text code value ++ tree_text others) =
+    omega (arith, length-append value (tree_text others)) in
     let inside : malformed_held (fields_len code) at value malformed_in ≡ None =
     held_is code at fields (tree_text held) fit.1
     ∙ ap (malformed_in (at + 4 + length fields)) (sym (append-nil (tree_text held)))

@@ -129,7 +129,8 @@ pub record IsPassed (area rest : List ℕ) (at : ℕ) : Type 0 where
 pub nothing_passed : (area : List ℕ) → IsPassed area area 0
 nothing_passed area = record { before = []; split = refl; whole = nothing_whole; place = refl }
 
-pub one_passed : (area rest : List ℕ) (at code len : ℕ) → IsPassed area rest at → front_of rest ≡ Whole code len → IsPassed area (drop len (drop 4 rest)) (at + (4 + len))
+pub one_passed : (area rest : List ℕ) (at code len : ℕ) → IsPassed area rest at → front_of rest ≡ Whole code len
+    → IsPassed area (drop len (drop 4 rest)) (at + (4 + len))
 one_passed area rest at code len p e =
     let one = one_option rest code len [] e in
     record {

@@ -20,7 +20,9 @@ MalformedBy at area front = malformed_in at area ≡ malformed_by front at area 
 
 -- whole options: what follows them is judged by itself
 abbrev pub IsWhole : List ℕ → Type 0
-IsWhole area = (at : ℕ) (rest : List ℕ) → malformed_in at (area ++ rest) ≡ or_else (malformed_in at area) (malformed_in (at + length area) rest)
+IsWhole area =
+    (at : ℕ) (rest : List ℕ)
+    → malformed_in at (area ++ rest) ≡ or_else (malformed_in at area) (malformed_in (at + length area) rest)
 
 -- the first option of the area itself that breaks the rule stands here, and what those before it hold is judged first
 pub record IsBadAt (area : List ℕ) (place : ℕ) : Type 0 where
@@ -34,7 +36,8 @@ held_in fields len area = drop fields (field 4 len area)
 -- the first place from a whole option on whose value has so many bytes
 abbrev pub malformed_by_value : ℕ → Option ℕ → ℕ → List ℕ → Option ℕ
 malformed_by_value at fields len area =
-    or_else (malformed_held fields at (field 4 len area) malformed_in) (malformed_in (at + 4 + len) (drop len (drop 4 area)))
+    or_else (malformed_held fields at (field 4 len area) malformed_in)
+    (malformed_in (at + 4 + len) (drop len (drop 4 area)))
 
 -- what is left to judge from a cursor on
 abbrev pub malformed_from : Cursor → Option ℕ

@@ -36,9 +36,11 @@ prefix_in value = record {
 -- An address or a prefix, as the kind of its IA has it. One with a status of its own other than success isn't given.
 abbrev pub item_by : IaKind → Instance → Option ItemSaid
 item_by Na instance =
-    if (instance.0 == ia_address) && (status_in (drop address_fields_len instance.1) == success) then Some (address_in instance.1) else None
+    if (instance.0 == ia_address) && (status_in (drop address_fields_len instance.1) == success)
+    then Some (address_in instance.1) else None
 item_by Pd instance =
-    if (instance.0 == ia_prefix) && (status_in (drop prefix_fields_len instance.1) == success) then Some (prefix_in instance.1) else None
+    if (instance.0 == ia_prefix) && (status_in (drop prefix_fields_len instance.1) == success)
+    then Some (prefix_in instance.1) else None
 
 abbrev pub items_in : IaKind → List ℕ → List ItemSaid
 items_in kind options = filter_map (item_by kind) (instances_in options)

@@ -28,7 +28,8 @@ abbrev pub malformed_by : Front → ℕ → List ℕ → (ℕ → List ℕ → O
 malformed_by End at area within = None
 malformed_by Bad at area within = Some at
 malformed_by (Whole code len) at area within =
-    or_else (malformed_held (fields_len code) at (field 4 len area) within) (within (at + 4 + len) (drop len (drop 4 area)))
+    or_else (malformed_held (fields_len code) at (field 4 len area) within)
+    (within (at + 4 + len) (drop len (drop 4 area)))
 
 -- the first place, where no more than this many options stand one behind or within the other
 abbrev pub malformed_within : ℕ → ℕ → List ℕ → Option ℕ

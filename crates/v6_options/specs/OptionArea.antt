@@ -1,4 +1,5 @@
--- Options one after another: a code and a length of two bytes each, and a value of so many bytes (RFC 8415, section 21.1).
+-- Options one after another: a code and a length of two bytes each, and a value of so many bytes (RFC 8415, section
+-- 21.1).
 use Rattle.std.specs.Prelude.{ℕ, zero, suc, ◌-◌, Bool, true, List, [], ◌∷◌, length, take, drop, slice_index, nat_le, nat_lt, ◌==◌, ◌&&◌, ◌||◌, if◌then◌else◌}
 use Rattle.std.specs.Int.{w16, from_be_bytes}
 use Rattle.v6_options.specs.declared.area.Front.{Front}
@@ -27,8 +28,8 @@ has_form code value =
     else if code == status_code then nat_le status_fields_len (length value)
     else true
 
--- What stands at the front: nothing, an option whose header is cut, whose value runs past the area or has no room for its
--- fixed fields, or a whole one with its code and the length of its value.
+-- What stands at the front: nothing, an option whose header is cut, whose value runs past the area or has no room for
+-- its fixed fields, or a whole one with its code and the length of its value.
 unfoldable pub front_of : List ℕ → Front
 front_of area =
     if length area == 0 then End

@@ -12,7 +12,8 @@ addresses_in (suc count) value = ip6_in 0 value ∷ addresses_in count (drop 16 
 -- one address or more, and nothing else
 abbrev pub dns6_in : List ℕ → Option (List Ip6)
 dns6_in value =
-    if nat_lt 0 (length value) && ((length value % 16) == 0) then Some (addresses_in (length value / 16) value) else None
+    if nat_lt 0 (length value) && ((length value % 16) == 0) then Some (addresses_in (length value / 16) value)
+    else None
 
 -- whether a pointer stands where the length of a label is due, after so many bytes
 abbrev pub pointer_after : ℕ → List ℕ → Bool

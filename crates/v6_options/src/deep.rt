@@ -113,8 +113,8 @@ fn pass(cursor: Cursor<'_>, code: u16, len: usize) -> Cursor<'_>
 }
 
 /// Whether each option of an area keeps the rule, at any depth: it ends within what holds it and has room for its fixed
-/// fields. The area begins at `begins`, which counts in the place of the first that doesn't; an option goes before those
-/// that it holds.
+/// fields. The area begins at `begins`, which counts in the place of the first that doesn't; an option goes before
+/// those that it holds.
 pub fn check_options(area: &[u8], begins: usize) -> Result<(), Malformed>
     requires { begins + length area.now < 2 ^ 64 }
     ensures whole { IfOk result (λ _. malformed_in begins area.now ≡ None) }

@@ -131,7 +131,8 @@ fn item_of(kind: IaKind, option: OptionView<'_>) -> Option<ItemSaid>
 
 /// The first address or prefix among the options of an IA, and the options after it.
 fn split_item(kind: IaKind, options: &[u8]) -> Option<(ItemSaid, &[u8])>
-    ensures { MatchOption result (items_in kind options.now ≡ []) (λ x. items_in kind options.now ≡ x.0 ∷ items_in kind x.1.now) }
+    ensures { MatchOption result (items_in kind options.now ≡ [])
+        (λ x. items_in kind options.now ≡ x.0 ∷ items_in kind x.1.now) }
 {
     let mut rest = options;
     'options: while let Some((option, others)) = split_option(rest) {

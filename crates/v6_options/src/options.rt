@@ -24,7 +24,8 @@ pub struct Options<'a> {
 
 /// The first option of an area, and the area after it.
 pub(crate) fn split_option(area: &[u8]) -> Option<(OptionView<'_>, &[u8])>
-    ensures list { MatchOption result (instances_in area.now ≡ []) (λ x. instances_in area.now ≡ instance_of x.0 ∷ instances_in x.1.now) }
+    ensures list { MatchOption result (instances_in area.now ≡ [])
+        (λ x. instances_in area.now ≡ instance_of x.0 ∷ instances_in x.1.now) }
     ensures form { IfSome result (λ x. has_form x.0.code x.0.value.now ≡ true) }
 {
     match read_front(area) {

@@ -73,7 +73,8 @@ fn has_pointer(value: &[u8]) -> bool
 /// The names that are the value: option 24 (RFC 3646, section 4). None unless it is one name or more and nothing else,
 /// each as labels to its end: none is compressed (RFC 8415, section 10).
 pub fn search6_of(alloc: Global, value: &[u8]) -> Result<Option<Vec<String>>, NoMemory>
-    ensures { IfOk result (λ names. option_map (λ v. map (λ name. string_bytes name) v.items) names ≡ search6_in value.now) }
+    ensures { IfOk result
+        (λ names. option_map (λ v. map (λ name. string_bytes name) v.items) names ≡ search6_in value.now) }
 {
     if has_pointer(value) {
         return Ok(None);

@@ -37,7 +37,8 @@ abbrev pub most_sent : ℕ
 most_sent = 4294967295
 
 abbrev pub said_again : Retrans → (rand : ℕ) → Retrans
-said_again r rand = record { rt = next_time r.parameters r.rt rand; sent = min (r.sent + 1) most_sent; parameters = r.parameters }
+said_again r rand =
+    record { rt = next_time r.parameters r.rt rand; sent = min (r.sent + 1) most_sent; parameters = r.parameters }
 
 -- where MRC isn't 0, the exchange fails once the message was said MRC times
 abbrev pub is_over : Retrans → Bool

@@ -34,7 +34,9 @@ last_of r [] = r
 last_of r (later ∷ sayings) = last_of later sayings
 
 abbrev pub CountsSayings : Type 0
-CountsSayings = (p : Parameters) (rand : ℕ) (rands : List ℕ) → (last_of (first_said p rand) (sayings_after (first_said p rand) rands)).sent ≡ min (1 + length rands) most_sent
+CountsSayings =
+    (p : Parameters) (rand : ℕ) (rands : List ℕ)
+    → (last_of (first_said p rand) (sayings_after (first_said p rand) rands)).sent ≡ min (1 + length rands) most_sent
 
 abbrev pub AreRands : List ℕ → Type 0
 AreRands rands = AllByRecursion (λ rand. rand ≤ 200) rands

@@ -47,7 +47,8 @@ rank_above Ways.Reject = omega arith
 rank_above (Ways.Gate4 x) = omega arith
 rank_above (Ways.Gate6 x) = omega arith
 
-same_row : (a b : HostRow) → row_rank a ≡ row_rank b → row_iface a ≡ row_iface b → row_net a ≡ row_net b → row_metric a ≡ row_metric b → row_gate a ≡ row_gate b → a ≡ b
+same_row : (a b : HostRow) → row_rank a ≡ row_rank b → row_iface a ≡ row_iface b → row_net a ≡ row_net b → row_metric a ≡ row_metric b → row_gate a ≡ row_gate b
+    → a ≡ b
 same_row (Addr i n) (Addr j m) r e f k g = λ x. Addr (record { number = e x }) (f x)
 same_row (Addr i n) (Route j m way q) r e f k g = let h : 0 < way_rank way = rank_above way in absurd (omega arith)
 same_row (Route i n way p) (Addr j m) r e f k g = let h : 0 < way_rank way = rank_above way in absurd (omega arith)

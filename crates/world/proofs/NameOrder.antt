@@ -114,7 +114,8 @@ module _ {A B : Type 0} (name_of : A → List ℕ) (has : A → B) (none : B) (n
     filter_stays stays [] = refl
     filter_stays stays (x ∷ xs) = by (is_name name (name_of x)) (keeps x) refl refl (filter_stays stays xs)
       where
-        by : (here kept : Bool) → is_name name (name_of x) ≡ here → keeps x ≡ kept → at (filter keeps xs) ≡ at xs → at (cond kept (x ∷ filter keeps xs) (filter keeps xs)) ≡ at (x ∷ xs)
+        by : (here kept : Bool) → is_name name (name_of x) ≡ here → keeps x ≡ kept → at (filter keeps xs) ≡ at xs
+            → at (cond kept (x ∷ filter keeps xs) (filter keeps xs)) ≡ at (x ∷ xs)
         by true true e k h = named_here x (filter keeps xs) e ∙ sym (named_here x xs e)
         by true false e k h = absurd (let bad : true ≡ false = sym (stays x e) ∙ k in cc)
         by false true e k h = named_there x (filter keeps xs) e ∙ h ∙ sym (named_there x xs e)
@@ -125,7 +126,8 @@ module _ {A B : Type 0} (name_of : A → List ℕ) (has : A → B) (none : B) (n
     filter_goes goes [] = refl
     filter_goes goes (x ∷ xs) = by (is_name name (name_of x)) (keeps x) refl refl (filter_goes goes xs)
       where
-        by : (here kept : Bool) → is_name name (name_of x) ≡ here → keeps x ≡ kept → at (filter keeps xs) ≡ none → at (cond kept (x ∷ filter keeps xs) (filter keeps xs)) ≡ none
+        by : (here kept : Bool) → is_name name (name_of x) ≡ here → keeps x ≡ kept → at (filter keeps xs) ≡ none
+            → at (cond kept (x ∷ filter keeps xs) (filter keeps xs)) ≡ none
         by true true e k h = absurd (let bad : true ≡ false = sym k ∙ goes x e in cc)
         by true false e k h = h
         by false true e k h = named_there x (filter keeps xs) e ∙ h
@@ -158,11 +160,13 @@ module _ {A : Type 0} (name_of : A → List ℕ) where
   all_after a b (x ∷ xs) less h = (nat_list_cmp_total.trans a b (name_of x) less h.0, all_after a b xs less h.1)
 
   module _ (x : A) where
-    put_after : (name : List ℕ) (ys : List A) → name_cmp name (name_of x) ≡ Less → AllByRecursion (After name) ys → AllByRecursion (After name) (put_named name_of x ys)
+    put_after : (name : List ℕ) (ys : List A) → name_cmp name (name_of x) ≡ Less → AllByRecursion (After name) ys
+        → AllByRecursion (After name) (put_named name_of x ys)
     put_after name [] less h = (less, tt)
     put_after name (y ∷ ys) less h = by (name_cmp (name_of x) (name_of y)) (put_after name ys less h.1)
       where
-        by : (o : Ordering) → AllByRecursion (After name) (put_named name_of x ys) → AllByRecursion (After name) (match_ordering o (x ∷ y ∷ ys) (x ∷ ys) (y ∷ put_named name_of x ys))
+        by : (o : Ordering) → AllByRecursion (After name) (put_named name_of x ys)
+            → AllByRecursion (After name) (match_ordering o (x ∷ y ∷ ys) (x ∷ ys) (y ∷ put_named name_of x ys))
         by Less k = (less, h)
         by Equal k = (less, h.1)
         by Greater k = (h.0, k)
@@ -171,7 +175,8 @@ module _ {A : Type 0} (name_of : A → List ℕ) where
     put_in_order [] h = (tt, tt)
     put_in_order (y ∷ ys) h = by (name_cmp (name_of x) (name_of y)) refl (put_in_order ys h.1)
       where
-        by : (o : Ordering) → name_cmp (name_of x) (name_of y) ≡ o → InNameOrder name_of (put_named name_of x ys) → InNameOrder name_of (match_ordering o (x ∷ y ∷ ys) (x ∷ ys) (y ∷ put_named name_of x ys))
+        by : (o : Ordering) → name_cmp (name_of x) (name_of y) ≡ o → InNameOrder name_of (put_named name_of x ys)
+            → InNameOrder name_of (match_ordering o (x ∷ y ∷ ys) (x ∷ ys) (y ∷ put_named name_of x ys))
         by Less e k = ((e, all_after (name_of x) (name_of y) ys e h.0), h)
         by Equal e k =
             let same : name_of y ≡ name_of x = sym (same_name (name_of x) (name_of y) (ap is_eq e)) in

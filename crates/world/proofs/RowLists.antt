@@ -57,7 +57,8 @@ put_last : (sorted rows : List HostRow) → IsStrictlySortedBy row_cmp (sorted +
 put_last sorted [] s = sym (append-nil sorted)
 put_last sorted (row ∷ rows) s =
     let e : with_row row sorted ≡ sorted ++ row ∷ [] = insert_last row_cmp_total sorted row (front_below row_cmp_total sorted row rows s) in
-    ap (λ xs. put_in_order xs rows) e ∙ (let f : (sorted ++ row ∷ []) ++ rows ≡ sorted ++ row ∷ rows = append_assoc sorted (row ∷ []) rows in put_last (sorted ++ row ∷ []) rows (rw f s) ∙ f)
+    ap (λ xs. put_in_order xs rows) e
+    ∙ (let f : (sorted ++ row ∷ []) ++ rows ≡ sorted ++ row ∷ rows = append_assoc sorted (row ∷ []) rows in put_last (sorted ++ row ∷ []) rows (rw f s) ∙ f)
 
 -- rows in row order, put in order again, are the same
 pub in_order_stays : (rows : List HostRow) → IsStrictlySortedBy row_cmp rows → in_row_order rows ≡ rows
@@ -71,7 +72,9 @@ regroup false false c = refl
 
 put_has : (q : HostRow) (sorted rows : List HostRow) → has_row (put_in_order sorted rows) q ≡ (has_row rows q || has_row sorted q)
 put_has q sorted [] = refl
-put_has q sorted (row ∷ rows) = put_has q (with_row row sorted) rows ∙ ap (λ b. has_row rows q || b) (has_insert row_cmp_total q row sorted) ∙ regroup (is_eq (row_cmp q row)) (has_row rows q) (has_row sorted q)
+put_has q sorted (row ∷ rows) =
+    put_has q (with_row row sorted) rows ∙ ap (λ b. has_row rows q || b) (has_insert row_cmp_total q row sorted)
+    ∙ regroup (is_eq (row_cmp q row)) (has_row rows q) (has_row sorted q)
 
 -- rows put in order are those that were put
 pub in_order_has : (rows : List HostRow) (q : HostRow) → has_row (in_row_order rows) q ≡ has_row rows q
@@ -88,5 +91,6 @@ put_in_order_more sorted [] x = refl
 put_in_order_more sorted (y ∷ xs) x = put_in_order_more (with_row y sorted) xs x
 
 -- the step of a loop that puts the rows of a list in order
-pub in_order_more : (rows : List HostRow) (i : ℕ) (d : HostRow) → i < length rows → in_row_order (take (i + 1) rows) ≡ with_row (get_or rows i d) (in_row_order (take i rows))
+pub in_order_more : (rows : List HostRow) (i : ℕ) (d : HostRow) → i < length rows
+    → in_row_order (take (i + 1) rows) ≡ with_row (get_or rows i d) (in_row_order (take i rows))
 in_order_more rows i d lt = rw (take_more rows i d lt) (put_in_order_more [] (take i rows) (get_or rows i d))

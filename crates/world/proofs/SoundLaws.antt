@@ -25,7 +25,8 @@ module _ (told : StoreTold) (sound : IsSound told) where
   old name = file_at name told.files
 
   -- nothing changed but the list of calls
-  same : (call : StoreCall) (files : List StoreFile) → files ≡ told.files → store_answered call told.files told ≡ record told { calls = (store_answered call told.files told).calls } → After call files
+  same : (call : StoreCall) (files : List StoreFile) → files ≡ told.files
+      → store_answered call told.files told ≡ record told { calls = (store_answered call told.files told).calls } → After call files
   same call files is nothing =
       subst (λ (f : List StoreFile). After call f) (sym is)
       (subst IsSound (sym nothing) (record { files_in_order = sound.files_in_order; undo_in_order = sound.undo_in_order; knows = sound.knows }))
@@ -36,7 +37,8 @@ module _ (told : StoreTold) (sound : IsSound told) where
     abbrev aside : StoreFile
     aside = record { name = aside_of name; bytes = bytes }
 
-    written_sound : (done : Bool) (files : List StoreFile) → (files ≡ put_file aside told.files) ⊎ (files ≡ told.files) → After (WroteAside name bytes done) files
+    written_sound : (done : Bool) (files : List StoreFile) → (files ≡ put_file aside told.files) ⊎ (files ≡ told.files)
+        → After (WroteAside name bytes done) files
     written_sound done files is = record { files_in_order = order is; undo_in_order = undo_order done; knows = knows done }
       where
         order : (files ≡ put_file aside told.files) ⊎ (files ≡ told.files) → InNameOrder file_name files
@@ -52,8 +54,12 @@ module _ (told : StoreTold) (sound : IsSound told) where
         reads n other (inr kept) = ap (file_at n) kept
 
         knows : (d : Bool) (n : List ℕ) → KnowsFile (store_answered (WroteAside name bytes d) files told) n
-        knows true n = writes (aside_of name) bytes n (old (aside_of name)) (old n) (file_at n files) told.disk told.undo (put_undo (aside_of name) Empties told.undo) (inr refl) (λ other. reads n other is) (sound.knows n)
-        knows false n = writes (aside_of name) bytes n (old (aside_of name)) (old n) (file_at n files) told.disk told.undo told.undo (inl refl) (λ other. reads n other is) (sound.knows n)
+        knows true n =
+            writes (aside_of name) bytes n (old (aside_of name)) (old n) (file_at n files) told.disk told.undo (put_undo (aside_of name) Empties told.undo)
+            (inr refl) (λ other. reads n other is) (sound.knows n)
+        knows false n =
+            writes (aside_of name) bytes n (old (aside_of name)) (old n) (file_at n files) told.disk told.undo told.undo (inl refl) (λ other. reads n other is)
+            (sound.knows n)
 
   -- ---- removing
 
@@ -73,13 +79,16 @@ module _ (told : StoreTold) (sound : IsSound told) where
         reads n other (inl gone) = ap (file_at n) gone ∙ file_left name n told.files other
         reads n other (inr kept) = ap (file_at n) kept
 
-        here : (n : List ℕ) → is_name n name ≡ true → (files ≡ drop_file name told.files) ⊎ (files ≡ told.files) → (file_at n files ≡ old n) ⊎ (file_at n files ≡ None)
-        here n e (inl gone) = inr (ap (λ (k : List ℕ). file_at k files) (same_name n name e) ∙ ap (file_at name) gone ∙ file_gone name told.files sound.files_in_order)
+        here : (n : List ℕ) → is_name n name ≡ true → (files ≡ drop_file name told.files) ⊎ (files ≡ told.files)
+            → (file_at n files ≡ old n) ⊎ (file_at n files ≡ None)
+        here n e (inl gone) =
+            inr (ap (λ (k : List ℕ). file_at k files) (same_name n name e) ∙ ap (file_at name) gone ∙ file_gone name told.files sound.files_in_order)
         here n e (inr kept) = inl (ap (file_at n) kept)
 
         knows : (d : Bool) (n : List ℕ) → KnowsFile (store_answered (RemovedFile name d) files told) n
         knows true n =
-            removes name n true (old name) (old n) (file_at n files) told.disk told.undo (restoring name (old name) told.undo) refl (λ other. reads n other is) (λ e. here n e is)
+            removes name n true (old name) (old n) (file_at n files) told.disk told.undo (restoring name (old name) told.undo) refl (λ other. reads n other is)
+            (λ e. here n e is)
             (λ e. ap old (same_name n name e)) (sound.knows n)
         knows false n =
             removes name n false (old name) (old n) (file_at n files) told.disk told.undo told.undo refl (λ other. reads n other is) (λ e. here n e is)
@@ -113,19 +122,26 @@ module _ (told : StoreTold) (sound : IsSound told) where
     IsUndo true undo' = undo' ≡ both
     IsUndo false undo' = undo' ≡ told.undo
 
-    pub renamed_knows : (done : Bool) (files : List StoreFile) (undo' : List UndoneFile) → (files ≡ moved) ⊎ (files ≡ told.files) → IsUndo done undo' → KnowsAll files done undo'
+    pub renamed_knows : (done : Bool) (files : List StoreFile) (undo' : List UndoneFile) → (files ≡ moved) ⊎ (files ≡ told.files) → IsUndo done undo'
+        → KnowsAll files done undo'
     renamed_knows done files undo' is u n =
-        renames name bytes done (old name) told.disk told.undo undo' (λ d e. as_undone d (subst (λ (b : Bool). IsUndo b undo') e u)) n (old n) (file_at n files) (sound.knows n) (of_aside is) (of_file is) (of_other is)
+        renames name bytes done (old name) told.disk told.undo undo' (λ d e. as_undone d (subst (λ (b : Bool). IsUndo b undo') e u)) n (old n) (file_at n files)
+        (sound.knows n) (of_aside is) (of_file is) (of_other is)
       where
         as_undone : (d : Bool) → IsUndo d undo' → RestoresBoth name bytes done (old name) told.disk told.undo undo' d
         as_undone true k = k
         as_undone false k = k
 
-        of_aside : (files ≡ moved) ⊎ (files ≡ told.files) → is_name n (aside_of name) ≡ true → (old n ≡ Some bytes) × ((file_at n files ≡ Some bytes) ⊎ (file_at n files ≡ None))
-        of_aside (inl m) e = (ap old (same_name n (aside_of name) e) ∙ there, inr (ap (λ (k : List ℕ). file_at k files) (same_name n (aside_of name) e) ∙ ap (file_at (aside_of name)) m ∙ moved_aside))
+        of_aside : (files ≡ moved) ⊎ (files ≡ told.files) → is_name n (aside_of name) ≡ true
+            → (old n ≡ Some bytes) × ((file_at n files ≡ Some bytes) ⊎ (file_at n files ≡ None))
+        of_aside (inl m) e = (
+          ap old (same_name n (aside_of name) e) ∙ there,
+          inr (ap (λ (k : List ℕ). file_at k files) (same_name n (aside_of name) e) ∙ ap (file_at (aside_of name)) m ∙ moved_aside),
+        )
         of_aside (inr k) e = (ap old (same_name n (aside_of name) e) ∙ there, inl (ap (file_at n) k ∙ ap old (same_name n (aside_of name) e) ∙ there))
 
-        of_file : (files ≡ moved) ⊎ (files ≡ told.files) → is_name n (aside_of name) ≡ false → is_name n name ≡ true → (old n ≡ old name) × ((file_at n files ≡ old name) ⊎ (file_at n files ≡ Some bytes))
+        of_file : (files ≡ moved) ⊎ (files ≡ told.files) → is_name n (aside_of name) ≡ false → is_name n name ≡ true
+            → (old n ≡ old name) × ((file_at n files ≡ old name) ⊎ (file_at n files ≡ Some bytes))
         of_file (inl m) a e = (ap old (same_name n name e), inr (ap (λ (k : List ℕ). file_at k files) (same_name n name e) ∙ ap (file_at name) m ∙ moved_name))
         of_file (inr k) a e = (ap old (same_name n name e), inl (ap (file_at n) k ∙ ap old (same_name n name e)))
 
@@ -134,7 +150,8 @@ module _ (told : StoreTold) (sound : IsSound told) where
         of_other (inr k) a e = ap (file_at n) k
 
   module _ (name : List ℕ) where
-    renamed_by : (content : Option (List ℕ)) → old (aside_of name) ≡ content → (done : Bool) (files : List StoreFile) → (files ≡ rename_file name content told.files) ⊎ (files ≡ told.files)
+    renamed_by : (content : Option (List ℕ)) → old (aside_of name) ≡ content → (done : Bool) (files : List StoreFile)
+        → (files ≡ rename_file name content told.files) ⊎ (files ≡ told.files)
         → After (RenamedAside name done) files
     renamed_by None there done files is = by done
       where
@@ -151,19 +168,25 @@ module _ (told : StoreTold) (sound : IsSound told) where
     renamed_by (Some bytes) there done files is = record { files_in_order = order is; undo_in_order = undo_order done; knows = knows done }
       where
         order : (files ≡ rename_file name (Some bytes) told.files) ⊎ (files ≡ told.files) → InNameOrder file_name files
-        order (inl m) = subst (InNameOrder file_name) (sym m) (drop_in_order file_name (aside_of name) (put_file (record { name = name; bytes = bytes }) told.files) (put_in_order file_name (record { name = name; bytes = bytes }) told.files sound.files_in_order))
+        order (inl m) =
+            subst (InNameOrder file_name) (sym m)
+            (drop_in_order file_name (aside_of name) (put_file (record { name = name; bytes = bytes }) told.files)
+            (put_in_order file_name (record { name = name; bytes = bytes }) told.files sound.files_in_order))
         order (inr k) = subst (InNameOrder file_name) (sym k) sound.files_in_order
 
         undo_order : (d : Bool) → InNameOrder undone_name (store_answered (RenamedAside name d) files told).undo
         undo_order true =
             subst (λ (o : Option (List ℕ)). InNameOrder undone_name (undo_renamed name (old name) o told.undo)) (sym there)
-            (put_in_order undone_name (record { name = aside_of name; undo = Restores (undone_at (aside_of name) (Some bytes) (restoring name (old name) told.undo)) }) (restoring name (old name) told.undo)
+            (put_in_order undone_name
+            (record { name = aside_of name; undo = Restores (undone_at (aside_of name) (Some bytes) (restoring name (old name) told.undo)) })
+            (restoring name (old name) told.undo)
             (put_in_order undone_name (record { name = name; undo = Restores (undone_at name (old name) told.undo) }) told.undo sound.undo_in_order))
         undo_order false = sound.undo_in_order
 
         knows : (d : Bool) (n : List ℕ) → KnowsFile (store_answered (RenamedAside name d) files told) n
         knows true n =
-            subst (λ (o : Option (List ℕ)). Knows n (file_at n files) (renamed name true (old name) o told.disk) (undo_renamed name (old name) o told.undo)) (sym there)
+            subst (λ (o : Option (List ℕ)). Knows n (file_at n files) (renamed name true (old name) o told.disk) (undo_renamed name (old name) o told.undo))
+            (sym there)
             (renamed_knows name bytes there true files (restoring (aside_of name) (Some bytes) (restoring name (old name) told.undo)) is refl n)
         knows false n =
             subst (λ (o : Option (List ℕ)). Knows n (file_at n files) (renamed name false (old name) o told.disk) told.undo) (sym there)
@@ -171,12 +194,15 @@ module _ (told : StoreTold) (sound : IsSound told) where
 
   -- ---- syncing and settling
 
-  synced_by : (name : List ℕ) (content : Option (List ℕ)) → old (aside_of name) ≡ content → (files : List StoreFile) → files ≡ told.files → After (SyncedAside name true) files
+  synced_by : (name : List ℕ) (content : Option (List ℕ)) → old (aside_of name) ≡ content → (files : List StoreFile) → files ≡ told.files
+      → After (SyncedAside name true) files
   synced_by name None there files is = same (SyncedAside name true) files is (rw there refl)
   synced_by name (Some bytes) there files is =
       subst (λ (f : List StoreFile). After (SyncedAside name true) f) (sym is) (record {
         files_in_order = sound.files_in_order;
-        undo_in_order = subst (λ (o : Option (List ℕ)). InNameOrder undone_name (undo_synced (aside_of name) o told.undo)) (sym there) (drop_in_order undone_name (aside_of name) told.undo sound.undo_in_order);
+        undo_in_order =
+            subst (λ (o : Option (List ℕ)). InNameOrder undone_name (undo_synced (aside_of name) o told.undo)) (sym there)
+            (drop_in_order undone_name (aside_of name) told.undo sound.undo_in_order);
         knows = λ n. subst (λ (o : Option (List ℕ)). Knows n (old n) (synced (aside_of name) o told.disk) (undo_synced (aside_of name) o told.undo)) (sym there)
             (syncs (aside_of name) bytes n (old n) told.disk told.undo sound.undo_in_order (sound.knows n));
       })
@@ -200,17 +226,20 @@ module _ (told : StoreTold) (sound : IsSound told) where
   pub sound_after : (call : StoreCall) (files : List StoreFile) → LeavesFiles call told.files files → After call files
   sound_after (ListedAsides names) files is = same (ListedAsides names) files (kept_files files told.files true is) refl
   sound_after (ReadFile name reading) files is = same (ReadFile name reading) files (kept_files files told.files true is) refl
-  sound_after (WroteAside name bytes done) files is = written_sound name bytes done files (changed_files files (put_file (record { name = aside_of name; bytes = bytes }) told.files) done is)
+  sound_after (WroteAside name bytes done) files is =
+      written_sound name bytes done files (changed_files files (put_file (record { name = aside_of name; bytes = bytes }) told.files) done is)
   sound_after (SyncedAside name true) files is = synced_by name (old (aside_of name)) refl files (kept_files files told.files true is)
   sound_after (SyncedAside name false) files is = same (SyncedAside name false) files (kept_files files told.files true is) refl
-  sound_after (RenamedAside name done) files is = renamed_by name (old (aside_of name)) refl done files (changed_files files (rename_file name (old (aside_of name)) told.files) done is)
+  sound_after (RenamedAside name done) files is =
+      renamed_by name (old (aside_of name)) refl done files (changed_files files (rename_file name (old (aside_of name)) told.files) done is)
   sound_after (RemovedFile name done) files is = removed_sound name done files (changed_files files (drop_file name told.files) done is)
   sound_after (SettledFiles true) files is = settled_by files (kept_files files told.files true is)
   sound_after (SettledFiles false) files is = same (SettledFiles false) files (kept_files files told.files true is) refl
 
   -- ---- images
 
-  set_order : (name : List ℕ) (content : Option (List ℕ)) (files : List StoreFile) → InNameOrder file_name files → InNameOrder file_name (set_file name content files)
+  set_order : (name : List ℕ) (content : Option (List ℕ)) (files : List StoreFile) → InNameOrder file_name files
+      → InNameOrder file_name (set_file name content files)
   set_order name None files h = drop_in_order file_name name files h
   set_order name (Some bytes) files h = put_in_order file_name (record { name = name; bytes = bytes }) files h
 
@@ -218,19 +247,23 @@ module _ (told : StoreTold) (sound : IsSound told) where
   undone_order [] files h = h
   undone_order (u ∷ undo) files h = set_order u.name (content_of u.undo) (undone undo files) (undone_order undo files h)
 
-  set_found : (name : List ℕ) (content : Option (List ℕ)) (files : List StoreFile) → InNameOrder file_name files → file_at name (set_file name content files) ≡ content
+  set_found : (name : List ℕ) (content : Option (List ℕ)) (files : List StoreFile) → InNameOrder file_name files
+      → file_at name (set_file name content files) ≡ content
   set_found name None files h = file_gone name files h
   set_found name (Some bytes) files h = file_found name bytes files
 
-  set_kept : (name gone : List ℕ) (content : Option (List ℕ)) (files : List StoreFile) → is_name name gone ≡ false → file_at name (set_file gone content files) ≡ file_at name files
+  set_kept : (name gone : List ℕ) (content : Option (List ℕ)) (files : List StoreFile) → is_name name gone ≡ false
+      → file_at name (set_file gone content files) ≡ file_at name files
   set_kept name gone None files other = file_left gone name files other
   set_kept name gone (Some bytes) files other = file_kept (record { name = gone; bytes = bytes }) name files other
 
-  pub undone_reads : (name : List ℕ) (undo : List UndoneFile) (files : List StoreFile) → InNameOrder file_name files → file_at name (undone undo files) ≡ undone_at name (file_at name files) undo
+  pub undone_reads : (name : List ℕ) (undo : List UndoneFile) (files : List StoreFile) → InNameOrder file_name files
+      → file_at name (undone undo files) ≡ undone_at name (file_at name files) undo
   undone_reads name [] files h = refl
   undone_reads name (u ∷ undo) files h = by (is_name name u.name) refl (undone_reads name undo files h)
     where
-      by : (b : Bool) → is_name name u.name ≡ b → file_at name (undone undo files) ≡ undone_at name (file_at name files) undo → file_at name (set_file u.name (content_of u.undo) (undone undo files)) ≡ undone_at name (file_at name files) (u ∷ undo)
+      by : (b : Bool) → is_name name u.name ≡ b → file_at name (undone undo files) ≡ undone_at name (file_at name files) undo
+          → file_at name (set_file u.name (content_of u.undo) (undone undo files)) ≡ undone_at name (file_at name files) (u ∷ undo)
       by true e rest =
           ap (λ (k : List ℕ). file_at k (set_file u.name (content_of u.undo) (undone undo files))) (same_name name u.name e)
           ∙ set_found u.name (content_of u.undo) (undone undo files) (undone_order undo files h)
@@ -243,4 +276,5 @@ module _ (told : StoreTold) (sound : IsSound told) where
   reads_image name = (sound.knows name).reads_so
 
   pub undone_image : IsImage told.disk (reads_of told) (undone_of told)
-  undone_image name = subst (MayBe (changed_file name (old name) told.disk)) (sym (undone_reads name told.undo told.files sound.files_in_order)) (sound.knows name).undone_so
+  undone_image name =
+      subst (MayBe (changed_file name (old name) told.disk)) (sym (undone_reads name told.undo told.files sound.files_in_order)) (sound.knows name).undone_so

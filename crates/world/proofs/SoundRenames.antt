@@ -47,9 +47,12 @@ module _ (name bytes : List ℕ) (done : Bool) (old : Option (List ℕ)) (disk :
     aside_known : (d : Bool) → done ≡ d → RestoresBoth d → IsKnown gone now (undone_at aside now undo') (emptied_at aside undo')
     aside_known true d is =
         knows_restored aside (Some bytes) now None (not done && aside_file.unsynced) disk undo undo'
-        (ap (undone_at aside now) is ∙ undo_found aside now aside (Restores (undone_at aside (Some bytes) (restoring name old undo))) (restoring name old undo) (name_itself aside)
+        (ap (undone_at aside now) is
+        ∙ undo_found aside now aside (Restores (undone_at aside (Some bytes) (restoring name old undo))) (restoring name old undo) (name_itself aside)
         ∙ undo_kept aside (Some bytes) name (Restores (undone_at name old undo)) undo (aside_unlike name))
-        (ap (emptied_at aside) is ∙ emptied_found aside aside (Restores (undone_at aside (Some bytes) (restoring name old undo))) (restoring name old undo) (name_itself aside)) r known
+        (ap (emptied_at aside) is
+        ∙ emptied_found aside aside (Restores (undone_at aside (Some bytes) (restoring name old undo))) (restoring name old undo) (name_itself aside))
+        r known
     aside_known false d is =
         subst (λ (v : List UndoneFile). IsKnown gone now (undone_at aside now v) (emptied_at aside v)) (sym is)
         (knows_more aside (Some bytes) now None (not done && aside_file.unsynced) disk undo r (λ k. kept_if_failed done aside_file.unsynced d k) known)
@@ -59,19 +62,24 @@ module _ (name bytes : List ℕ) (done : Bool) (old : Option (List ℕ)) (disk :
     file_known : (d : Bool) → done ≡ d → RestoresBoth d → IsKnown come now (undone_at name now undo') (emptied_at name undo')
     file_known true d is =
         knows_restored name old now (Some bytes) (aside_file.unsynced || (not done && file.unsynced)) disk undo undo'
-        (ap (undone_at name now) is ∙ undo_kept name now aside (Restores (undone_at aside (Some bytes) (restoring name old undo))) (restoring name old undo) (unlike_aside name)
+        (ap (undone_at name now) is
+        ∙ undo_kept name now aside (Restores (undone_at aside (Some bytes) (restoring name old undo))) (restoring name old undo) (unlike_aside name)
         ∙ undo_found name now name (Restores (undone_at name old undo)) undo (name_itself name))
-        (ap (emptied_at name) is ∙ emptied_kept name aside (Restores (undone_at aside (Some bytes) (restoring name old undo))) (restoring name old undo) (unlike_aside name)
+        (ap (emptied_at name) is
+        ∙ emptied_kept name aside (Restores (undone_at aside (Some bytes) (restoring name old undo))) (restoring name old undo) (unlike_aside name)
         ∙ emptied_found name name (Restores (undone_at name old undo)) undo (name_itself name)) r known
     file_known false d is =
         subst (λ (v : List UndoneFile). IsKnown come now (undone_at name now v) (emptied_at name v)) (sym is)
-        (knows_more name old now (Some bytes) (aside_file.unsynced || (not done && file.unsynced)) disk undo r (λ k. if_failed done aside_file.unsynced file.unsynced d k) known)
+        (knows_more name old now (Some bytes) (aside_file.unsynced || (not done && file.unsynced)) disk undo r
+        (λ k. if_failed done aside_file.unsynced file.unsynced d k) known)
 
   others : (n : List ℕ) (now : Option (List ℕ)) → is_name n aside ≡ false → is_name n name ≡ false → (d : Bool) → RestoresBoth d
       → (undone_at n now undo' ≡ undone_at n now undo) × (emptied_at n undo' ≡ emptied_at n undo)
   others n now a m true is = (
-    ap (undone_at n now) is ∙ undo_kept n now aside (Restores (undone_at aside (Some bytes) (restoring name old undo))) (restoring name old undo) a ∙ undo_kept n now name (Restores (undone_at name old undo)) undo m,
-    ap (emptied_at n) is ∙ emptied_kept n aside (Restores (undone_at aside (Some bytes) (restoring name old undo))) (restoring name old undo) a ∙ emptied_kept n name (Restores (undone_at name old undo)) undo m,
+    ap (undone_at n now) is ∙ undo_kept n now aside (Restores (undone_at aside (Some bytes) (restoring name old undo))) (restoring name old undo) a
+        ∙ undo_kept n now name (Restores (undone_at name old undo)) undo m,
+    ap (emptied_at n) is ∙ emptied_kept n aside (Restores (undone_at aside (Some bytes) (restoring name old undo))) (restoring name old undo) a
+        ∙ emptied_kept n name (Restores (undone_at name old undo)) undo m,
   )
   others n now a m false is = (ap (undone_at n now) is, ap (emptied_at n) is)
 
@@ -85,14 +93,17 @@ module _ (name bytes : List ℕ) (done : Bool) (old : Option (List ℕ)) (disk :
         by true m a e =
             let same : n ≡ aside = same_name n aside a in
             let r = of_aside a in
-            let here : Knows aside (Some bytes) disk undo = subst (λ (k : List ℕ). Knows k (Some bytes) disk undo) same (subst (λ (o : Option (List ℕ)). Knows n o disk undo) r.0 known) in
+            let here : Knows aside (Some bytes) disk undo =
+            subst (λ (k : List ℕ). Knows k (Some bytes) disk undo) same (subst (λ (o : Option (List ℕ)). Knows n o disk undo) r.0 known) in
             known_by gone (changed_file n now disk_to) now now (undone_at aside now undo') (undone_at n now undo') (emptied_at aside undo') (emptied_at n undo')
-            (changed_here n now gone (come ∷ disk) (gone_named n true a)) refl (ap (λ (k : List ℕ). undone_at k now undo') same) (ap (λ (k : List ℕ). emptied_at k undo') same)
+            (changed_here n now gone (come ∷ disk) (gone_named n true a)) refl (ap (λ (k : List ℕ). undone_at k now undo') same)
+            (ap (λ (k : List ℕ). emptied_at k undo') same)
             (aside_known now r.1 here done refl (restores done refl))
         by false true a e =
             let same : n ≡ name = same_name n name e in
             let r = of_file a e in
-            let here : Knows name old disk undo = subst (λ (k : List ℕ). Knows k old disk undo) same (subst (λ (o : Option (List ℕ)). Knows n o disk undo) r.0 known) in
+            let here : Knows name old disk undo =
+            subst (λ (k : List ℕ). Knows k old disk undo) same (subst (λ (o : Option (List ℕ)). Knows n o disk undo) r.0 known) in
             known_by come (changed_file n now disk_to) now now (undone_at name now undo') (undone_at n now undo') (emptied_at name undo') (emptied_at n undo')
             (changed_there n now gone (come ∷ disk) (gone_named n false a) ∙ changed_here n now come disk (come_named n true e)) refl
             (ap (λ (k : List ℕ). undone_at k now undo') same) (ap (λ (k : List ℕ). emptied_at k undo') same)

@@ -33,11 +33,13 @@ module _ (file : ChangedFile) (content : Option (List ℕ)) (unsynced : Bool) wh
   pub may_now : (c : Option (List ℕ)) → c ≡ content → MayBe (with_content content unsynced file) c
   may_now c is = inr (inl is)
 
-  pub known_content : (reads before : Option (List ℕ)) (emptied : Bool) → MayBe (with_content content unsynced file) reads → MayBe (with_content content unsynced file) before
+  pub known_content : (reads before : Option (List ℕ)) (emptied : Bool) → MayBe (with_content content unsynced file) reads
+      → MayBe (with_content content unsynced file) before
       → (emptied ≡ true → unsynced ≡ true) → IsKnown (with_content content unsynced file) reads before emptied
   known_content reads before emptied r b e = record { reads_so = r; undone_so = b; emptied_so = e; torn_so = λ u. or_left unsynced file.torn u }
 
-pub known_written : (file : ChangedFile) (content reads before : Option (List ℕ)) (emptied : Bool) → IsKnown (with_content content true file) reads before emptied
+pub known_written : (file : ChangedFile) (content reads before : Option (List ℕ)) (emptied : Bool)
+    → IsKnown (with_content content true file) reads before emptied
 known_written file content reads before emptied = record { reads_so = inl refl; undone_so = inl refl; emptied_so = λ e. refl; torn_so = λ u. refl }
 
 pub known_unchanged : (name : List ℕ) (reads : Option (List ℕ)) → IsKnown (unchanged name reads) reads reads false
@@ -52,18 +54,21 @@ changed_is_named name reads (x ∷ xs) = by (is_name name x.name) refl (changed_
     by false e h = h
 
 -- what undoing gives is what it gave, or what the file reads as
-pub undone_or : (name : List ℕ) (reads now : Option (List ℕ)) (undo : List UndoneFile) → (undone_at name now undo ≡ undone_at name reads undo) ⊎ (undone_at name now undo ≡ now)
+pub undone_or : (name : List ℕ) (reads now : Option (List ℕ)) (undo : List UndoneFile)
+    → (undone_at name now undo ≡ undone_at name reads undo) ⊎ (undone_at name now undo ≡ now)
 undone_or name reads now [] = inr refl
 undone_or name reads now (x ∷ xs) = by (is_name name x.name) (undone_or name reads now xs)
   where
     by : (b : Bool) → (undone_at name now xs ≡ undone_at name reads xs) ⊎ (undone_at name now xs ≡ now)
-        → (cond b (content_of x.undo) (undone_at name now xs) ≡ cond b (content_of x.undo) (undone_at name reads xs)) ⊎ (cond b (content_of x.undo) (undone_at name now xs) ≡ now)
+        → (cond b (content_of x.undo) (undone_at name now xs) ≡ cond b (content_of x.undo) (undone_at name reads xs))
+        ⊎ (cond b (content_of x.undo) (undone_at name now xs) ≡ now)
     by true h = inl refl
     by false h = h
 
 -- ---- a settling
 
-pub unsynced_same : (name : List ℕ) (reads now : Option (List ℕ)) (disk : List ChangedFile) → (changed_file name now disk).unsynced ≡ (changed_file name reads disk).unsynced
+pub unsynced_same : (name : List ℕ) (reads now : Option (List ℕ)) (disk : List ChangedFile)
+    → (changed_file name now disk).unsynced ≡ (changed_file name reads disk).unsynced
 unsynced_same name reads now [] = refl
 unsynced_same name reads now (x ∷ xs) = by (is_name name x.name) (unsynced_same name reads now xs)
   where
@@ -73,29 +78,36 @@ unsynced_same name reads now (x ∷ xs) = by (is_name name x.name) (unsynced_sam
     by false h = h
 
 module _ (name : List ℕ) (reads : Option (List ℕ)) (disk : List ChangedFile) where
-  of_name : (v : Bool) → (changed_file name reads disk).unsynced ≡ v → (x : ChangedFile) → is_name name (changed_name x) ≡ true → (changed_file x.name None disk).unsynced ≡ v
+  of_name : (v : Bool) → (changed_file name reads disk).unsynced ≡ v → (x : ChangedFile) → is_name name (changed_name x) ≡ true
+      → (changed_file x.name None disk).unsynced ≡ v
   of_name v is x here = ap (λ (n : List ℕ). (changed_file n None disk).unsynced) (sym (same_name name x.name here)) ∙ unsynced_same name reads None disk ∙ is
 
   pub settled_stays : (changed_file name reads disk).unsynced ≡ true → changed_file name reads (settled disk) ≡ changed_file name reads disk
-  settled_stays is = filter_stays changed_name (λ file. file) (unchanged name reads) name (λ file. (changed_file file.name None disk).unsynced) (of_name true is) disk
+  settled_stays is =
+      filter_stays changed_name (λ file. file) (unchanged name reads) name (λ file. (changed_file file.name None disk).unsynced) (of_name true is) disk
 
   -- once settled a file that was synced is as it reads
   pub settled_goes : (changed_file name reads disk).unsynced ≡ false → changed_file name reads (settled disk) ≡ unchanged name reads
-  settled_goes is = filter_goes changed_name (λ file. file) (unchanged name reads) name (λ file. (changed_file file.name None disk).unsynced) (of_name false is) disk
+  settled_goes is =
+      filter_goes changed_name (λ file. file) (unchanged name reads) name (λ file. (changed_file file.name None disk).unsynced) (of_name false is) disk
 
 module _ {B : Type 0} (has : UndoneFile → B) (none : B) (name : List ℕ) where
   abbrev kept : List UndoneFile → List UndoneFile
   kept undo = filter (λ file. is_emptied file.undo) undo
 
-  pub unemptied_goes : (undo : List UndoneFile) → InNameOrder undone_name undo → emptied_at name undo ≡ false → named undone_name has none name (kept undo) ≡ none
+  pub unemptied_goes : (undo : List UndoneFile) → InNameOrder undone_name undo → emptied_at name undo ≡ false
+      → named undone_name has none name (kept undo) ≡ none
   unemptied_goes [] h e = refl
   unemptied_goes (x ∷ xs) h e = by (is_name name x.name) (is_emptied x.undo) refl refl (unemptied_goes xs h.1) e
     where
-      by : (here empties : Bool) → is_name name x.name ≡ here → is_emptied x.undo ≡ empties → (emptied_at name xs ≡ false → named undone_name has none name (kept xs) ≡ none)
+      by : (here empties : Bool) → is_name name x.name ≡ here → is_emptied x.undo ≡ empties
+          → (emptied_at name xs ≡ false → named undone_name has none name (kept xs) ≡ none)
           → cond here empties (emptied_at name xs) ≡ false → named undone_name has none name (cond empties (x ∷ kept xs) (kept xs)) ≡ none
       by true true here is rest bad = cc
       by true false here is rest bad =
           let same : x.name ≡ name = sym (same_name name x.name here) in
-          none_after undone_name has none name (kept xs) (kept_after undone_name (λ file. is_emptied file.undo) name xs (subst (λ (n : List ℕ). AllByRecursion (λ (y : UndoneFile). name_cmp n y.name ≡ Less) xs) same h.0))
+          none_after undone_name has none name (kept xs)
+          (kept_after undone_name (λ file. is_emptied file.undo) name xs
+          (subst (λ (n : List ℕ). AllByRecursion (λ (y : UndoneFile). name_cmp n y.name ≡ Less) xs) same h.0))
       by false true here is rest left = named_there undone_name has none name x (kept xs) here ∙ rest left
       by false false here is rest left = rest left

@@ -23,8 +23,10 @@ removed name done reads disk =
     let file = changed_file name reads disk in
     with_content None (not done && file.unsynced) file ∷ disk
 
--- So is a renaming: the file has what the aside read as, and the aside is no more. Where there is no aside, nothing changes.
-abbrev pub renamed : (name : List ℕ) → (done : Bool) → (reads aside : Option (List ℕ)) → List ChangedFile → List ChangedFile
+-- So is a renaming: the file has what the aside read as, and the aside is no more. Where there is no aside, nothing
+-- changes.
+abbrev pub renamed : (name : List ℕ) → (done : Bool) → (reads aside : Option (List ℕ)) → List ChangedFile
+    → List ChangedFile
 renamed name done reads None disk = disk
 renamed name done reads (Some bytes) disk =
     let file = changed_file name reads disk in

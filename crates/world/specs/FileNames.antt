@@ -7,7 +7,9 @@ use Rattle.std.specs.List.{list_all}
 
 -- a letter, a digit, `.`, `_` or `-`
 abbrev pub is_file_byte : ℕ → Bool
-is_file_byte b = (nat_le 97 b && nat_le b 122) || (nat_le 65 b && nat_le b 90) || (nat_le 48 b && nat_le b 57) || (b == 46) || (b == 95) || (b == 45)
+is_file_byte b =
+    (nat_le 97 b && nat_le b 122) || (nat_le 65 b && nat_le b 90) || (nat_le 48 b && nat_le b 57) || (b == 46)
+    || (b == 95) || (b == 45)
 
 abbrev pub IsFileName : List ℕ → Type 0
 IsFileName name = IsTrue (list_all is_file_byte name)

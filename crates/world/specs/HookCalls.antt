@@ -26,7 +26,14 @@ abbrev pub variable_of : HookVar → Variable
 variable_of var = record { name = string_bytes var.name; value = string_bytes var.value }
 
 abbrev pub job_of : HookJob → Job
-job_of job = record { number = job.number; reason = job.reason; iface = job.iface.number; script = string_bytes job.script; vars = map variable_of job.vars.items }
+job_of job =
+    record {
+      number = job.number;
+      reason = job.reason;
+      iface = job.iface.number;
+      script = string_bytes job.script;
+      vars = map variable_of job.vars.items;
+    }
 
 -- a call with its answer: a start and whether it was done; what a poll said, nothing where it failed; a child abandoned
 pub data HookCall : Type 0 where

@@ -40,10 +40,12 @@ cut_event (Frame iface len) size room = Frame iface (min size room)
 cut_event event size room = event
 
 abbrev pub cut_wake : Given → ℕ → Wake
-cut_wake given room = record { at = given.wake.at; salt = given.wake.salt; event = cut_event given.wake.event (length given.bytes) room }
+cut_wake given room =
+    record { at = given.wake.at; salt = given.wake.salt; event = cut_event given.wake.event (length given.bytes) room }
 
 abbrev pub waited : Option ℕ → Option Given → List Given → LinkTold → LinkTold
-waited until given coming told = record told { coming = coming; waits = told.waits + 1; calls = told.calls ++ Waited until given ∷ [] }
+waited until given coming told =
+    record told { coming = coming; waits = told.waits + 1; calls = told.calls ++ Waited until given ∷ [] }
 
 abbrev pub Comes : Option ℕ → LinkTold → List Given → Option LinkTold → List ℕ → Wake → Type 0
 Comes until told [] new buffer wake =
@@ -51,7 +53,11 @@ Comes until told [] new buffer wake =
 Comes until told (given ∷ coming) new buffer wake =
     (wake ≡ cut_wake given (length buffer))
     × (take (frame_len wake.event) buffer ≡ take (frame_len wake.event) given.bytes)
-    × (new ≡ Some (waited until (Some (record { wake = wake; bytes = take (frame_len wake.event) given.bytes })) coming told))
+    ×
+    (new
+    ≡ Some
+    (waited until
+    (Some (record { wake = wake; bytes = take (frame_len wake.event) given.bytes })) coming told))
 
 -- what a wait asked for, and gave
 abbrev pub Waits : Option ℕ → Option LinkTold → Option LinkTold → List ℕ → Result Wake DeviceAnswer → Type 0
@@ -61,7 +67,8 @@ Waits until (Some told) new buffer (Err Answer.Failed) = new ≡ Some (waited un
 Waits until (Some told) new buffer (Err Answer.NoMemory) = new ≡ Some told
 
 abbrev pub offered : ℕ → List ℕ → Bool → LinkTold → LinkTold
-offered iface frame taken told = record told { sends = told.sends + 1; calls = told.calls ++ Offered iface frame taken ∷ [] }
+offered iface frame taken told =
+    record told { sends = told.sends + 1; calls = told.calls ++ Offered iface frame taken ∷ [] }
 
 -- a frame that was offered, and whether it was taken
 abbrev pub Offers : {T : Type 0} → ℕ → List ℕ → Option LinkTold → Option LinkTold → Result T DeviceAnswer → Type 0

@@ -13,7 +13,8 @@ named name_of has none name (x ∷ xs) = if is_name name (name_of x) then has x 
 -- with one more at its place, in place of the one of that name
 abbrev pub put_named : {A : Type 0} → (A → List ℕ) → A → List A → List A
 put_named name_of x [] = x ∷ []
-put_named name_of x (y ∷ ys) = match_ordering (name_cmp (name_of x) (name_of y)) (x ∷ y ∷ ys) (x ∷ ys) (y ∷ put_named name_of x ys)
+put_named name_of x (y ∷ ys) =
+    match_ordering (name_cmp (name_of x) (name_of y)) (x ∷ y ∷ ys) (x ∷ ys) (y ∷ put_named name_of x ys)
 
 -- without the one of a name
 abbrev pub drop_named : {A : Type 0} → (A → List ℕ) → List ℕ → List A → List A

@@ -31,4 +31,5 @@ LeadsTo dest way = ⊥
 
 abbrev pub IsRow : HostRow → Type 0
 IsRow (Addr iface net) = IsInterface iface.number × IsNet net
-IsRow (Route iface dest way metric) = IsInterface iface.number × IsNet dest × IsNetwork dest × LeadsTo dest way × (metric < 2 ^ 32)
+IsRow (Route iface dest way metric) =
+    IsInterface iface.number × IsNet dest × IsNetwork dest × LeadsTo dest way × (metric < 2 ^ 32)

@@ -1,5 +1,5 @@
--- What holds at each moment of what a store tells: its files stand in order, and both what they read as and what undoing
--- makes of them is one of the images that a crash may leave.
+-- What holds at each moment of what a store tells: its files stand in order, and both what they read as and what
+-- undoing makes of them is one of the images that a crash may leave.
 use Rattle.std.specs.Prelude.{ℕ, ◌≡◌, ◌⊎◌, Bool, true, false, List, Option}
 use Rattle.world.specs.FileNames.{aside_of}
 use Rattle.world.specs.NamedLists.{named, InNameOrder}
@@ -56,10 +56,12 @@ undone_of told name = file_at name (undone told.undo told.files)
 
 -- What is told is sound after each call, where it was before.
 abbrev pub StaysSound : Type 0
-StaysSound = (told : StoreTold) (call : StoreCall) (files : List StoreFile) → IsSound told → LeavesFiles call told.files files
+StaysSound =
+    (told : StoreTold) (call : StoreCall) (files : List StoreFile) → IsSound told → LeavesFiles call told.files files
     → IsSound (store_answered call files told)
 
 -- A settling leaves of a file that was synced what it reads as, and nothing else.
 abbrev pub SettlesForGood : Type 0
-SettlesForGood = (told : StoreTold) (name : List ℕ) → (changed_file name (reads_of told name) told.disk).unsynced ≡ false
+SettlesForGood =
+    (told : StoreTold) (name : List ℕ) → (changed_file name (reads_of told name) told.disk).unsynced ≡ false
     → changed_file name (reads_of told name) (settled told.disk) ≡ unchanged name (reads_of told name)

@@ -45,7 +45,8 @@ disk_after (ReadFile name reading) files disk = disk
 disk_after (WroteAside name bytes done) files disk = written (aside_of name) bytes (file_at (aside_of name) files) disk
 disk_after (SyncedAside name true) files disk = synced (aside_of name) (file_at (aside_of name) files) disk
 disk_after (SyncedAside name false) files disk = disk
-disk_after (RenamedAside name done) files disk = renamed name done (file_at name files) (file_at (aside_of name) files) disk
+disk_after (RenamedAside name done) files disk =
+    renamed name done (file_at name files) (file_at (aside_of name) files) disk
 disk_after (RemovedFile name done) files disk = removed name done (file_at name files) disk
 disk_after (SettledFiles true) files disk = settled disk
 disk_after (SettledFiles false) files disk = disk
@@ -54,7 +55,8 @@ disk_after (SettledFiles false) files disk = disk
 abbrev pub undo_after : StoreCall → List StoreFile → List UndoneFile → List UndoneFile
 undo_after (WroteAside name bytes true) files undo = put_undo (aside_of name) Empties undo
 undo_after (SyncedAside name true) files undo = undo_synced (aside_of name) (file_at (aside_of name) files) undo
-undo_after (RenamedAside name true) files undo = undo_renamed name (file_at name files) (file_at (aside_of name) files) undo
+undo_after (RenamedAside name true) files undo =
+    undo_renamed name (file_at name files) (file_at (aside_of name) files) undo
 undo_after (RemovedFile name true) files undo = restoring name (file_at name files) undo
 undo_after (SettledFiles true) files undo = undo_settled undo
 undo_after call files undo = undo
@@ -78,22 +80,30 @@ store_number (Some told) = length told.calls + 1
 
 -- A failed call left the files as they were or changed; where it is told which calls fail, as they were.
 abbrev pub FailedWrite : Option StoreFails → StoreCall → List StoreFile → StoreTold → Option StoreTold → Type 0
-FailedWrite None call changed told new = (new ≡ Some (store_answered call told.files told)) ⊎ (new ≡ Some (store_answered call changed told))
+FailedWrite None call changed told new =
+    (new ≡ Some (store_answered call told.files told)) ⊎ (new ≡ Some (store_answered call changed told))
 FailedWrite (Some failing) call changed told new = new ≡ Some (store_answered call told.files told)
 
 -- a change to the files, and the call that asked for it
-abbrev pub ChangesFiles : {T : Type 0} → Option StoreFails → (List StoreFile → List StoreFile) → (Bool → StoreCall) → Option StoreTold → Option StoreTold → Result T DeviceAnswer → Type 0
+abbrev pub ChangesFiles : {T : Type 0} → Option StoreFails → (List StoreFile → List StoreFile) → (Bool → StoreCall)
+    → Option StoreTold → Option StoreTold → Result T DeviceAnswer → Type 0
 ChangesFiles failing change call None new result = new ≡ None
-ChangesFiles failing change call (Some told) new (Ok x) = new ≡ Some (store_answered (call true) (change told.files) told)
-ChangesFiles failing change call (Some told) new (Err Answer.Failed) = FailedWrite failing (call false) (change told.files) told new
+ChangesFiles failing change call (Some told) new (Ok x) =
+    new ≡ Some (store_answered (call true) (change told.files) told)
+ChangesFiles failing change call (Some told) new (Err Answer.Failed) =
+    FailedWrite failing (call false) (change told.files) told new
 ChangesFiles failing change call (Some told) new (Err Answer.NoMemory) = new ≡ Some told
 
 -- the names of the asides, appended in byte order
-abbrev pub ListsAsides : {T : Type 0} → Option StoreTold → Option StoreTold → List (List ℕ) → List (List ℕ) → Result T DeviceAnswer → Type 0
+abbrev pub ListsAsides : {T : Type 0} → Option StoreTold → Option StoreTold → List (List ℕ) → List (List ℕ)
+    → Result T DeviceAnswer → Type 0
 ListsAsides None told_new old new (Ok x) = told_new ≡ None
-ListsAsides (Some told) told_new old new (Ok x) = (new ≡ old ++ asides told.files) × (told_new ≡ Some (store_answered (ListedAsides (Some (asides told.files))) told.files told))
+ListsAsides (Some told) told_new old new (Ok x) =
+    (new ≡ old ++ asides told.files)
+    × (told_new ≡ Some (store_answered (ListedAsides (Some (asides told.files))) told.files told))
 ListsAsides None told_new old new (Err answer) = told_new ≡ None
-ListsAsides (Some told) told_new old new (Err Answer.Failed) = told_new ≡ Some (store_answered (ListedAsides None) told.files told)
+ListsAsides (Some told) told_new old new (Err Answer.Failed) =
+    told_new ≡ Some (store_answered (ListedAsides None) told.files told)
 ListsAsides (Some told) told_new old new (Err Answer.NoMemory) = told_new ≡ Some told
 
 abbrev pub reading_of : Option (List ℕ) → Reading
@@ -105,10 +115,14 @@ abbrev pub Appended : Option (List ℕ) → List ℕ → List ℕ → Bool → T
 Appended None old new found = (found ≡ false) × (new ≡ old)
 Appended (Some bytes) old new found = (found ≡ true) × (new ≡ old ++ bytes)
 
-abbrev pub ReadsFile : List ℕ → Option StoreTold → Option StoreTold → List ℕ → List ℕ → Result Bool DeviceAnswer → Type 0
+abbrev pub ReadsFile : List ℕ → Option StoreTold → Option StoreTold → List ℕ → List ℕ → Result Bool DeviceAnswer
+    → Type 0
 ReadsFile name None told_new old new result = told_new ≡ None
-ReadsFile name (Some told) told_new old new (Ok found) = Appended (file_at name told.files) old new found × (told_new ≡ Some (store_answered (ReadFile name (reading_of (file_at name told.files))) told.files told))
-ReadsFile name (Some told) told_new old new (Err Answer.Failed) = told_new ≡ Some (store_answered (ReadFile name Unread) told.files told)
+ReadsFile name (Some told) told_new old new (Ok found) =
+    Appended (file_at name told.files) old new found
+    × (told_new ≡ Some (store_answered (ReadFile name (reading_of (file_at name told.files))) told.files told))
+ReadsFile name (Some told) told_new old new (Err Answer.Failed) =
+    told_new ≡ Some (store_answered (ReadFile name Unread) told.files told)
 ReadsFile name (Some told) told_new old new (Err Answer.NoMemory) = told_new ≡ Some told
 
 -- where there is no aside, renaming it fails
@@ -119,28 +133,38 @@ FindsAside name (Some told) (Err answer) = Unit {0}
 
 -- where it is told which calls fail, renaming fails at these calls and where there is no aside, and nowhere else
 abbrev pub fails_rename : List ℕ → StoreTold → StoreFails → Bool
-fails_rename name told fails = fails_at fails (length told.calls + 1) || not (is_some (file_at (aside_of name) told.files))
+fails_rename name told fails =
+    fails_at fails (length told.calls + 1) || not (is_some (file_at (aside_of name) told.files))
 
-abbrev pub RenameForetold : {T : Type 0} → Option StoreFails → List ℕ → Option StoreTold → Result T DeviceAnswer → Type 0
+abbrev pub RenameForetold : {T : Type 0} → Option StoreFails → List ℕ → Option StoreTold → Result T DeviceAnswer
+    → Type 0
 RenameForetold failing name None result = Unit {0}
 RenameForetold failing name (Some told) result = FailsAsTold (option_map (fails_rename name told) failing) result
 
-abbrev pub WritesAside : {T : Type 0} → Option StoreFails → List ℕ → List ℕ → Option StoreTold → Option StoreTold → Result T DeviceAnswer → Type 0
-WritesAside failing name bytes = ChangesFiles failing (put_file (record { name = aside_of name; bytes = bytes })) (WroteAside name bytes)
+abbrev pub WritesAside : {T : Type 0} → Option StoreFails → List ℕ → List ℕ → Option StoreTold → Option StoreTold
+    → Result T DeviceAnswer → Type 0
+WritesAside failing name bytes =
+    ChangesFiles failing (put_file (record { name = aside_of name; bytes = bytes })) (WroteAside name bytes)
 
-abbrev pub SyncsAside : {T : Type 0} → Option StoreFails → List ℕ → Option StoreTold → Option StoreTold → Result T DeviceAnswer → Type 0
+abbrev pub SyncsAside : {T : Type 0} → Option StoreFails → List ℕ → Option StoreTold → Option StoreTold
+    → Result T DeviceAnswer → Type 0
 SyncsAside failing name = ChangesFiles failing (λ files. files) (SyncedAside name)
 
-abbrev pub RenamesAside : {T : Type 0} → Option StoreFails → List ℕ → Option StoreTold → Option StoreTold → Result T DeviceAnswer → Type 0
-RenamesAside failing name = ChangesFiles failing (λ files. rename_file name (file_at (aside_of name) files) files) (RenamedAside name)
+abbrev pub RenamesAside : {T : Type 0} → Option StoreFails → List ℕ → Option StoreTold → Option StoreTold
+    → Result T DeviceAnswer → Type 0
+RenamesAside failing name =
+    ChangesFiles failing (λ files. rename_file name (file_at (aside_of name) files) files) (RenamedAside name)
 
-abbrev pub RemovesFile : {T : Type 0} → Option StoreFails → List ℕ → Option StoreTold → Option StoreTold → Result T DeviceAnswer → Type 0
+abbrev pub RemovesFile : {T : Type 0} → Option StoreFails → List ℕ → Option StoreTold → Option StoreTold
+    → Result T DeviceAnswer → Type 0
 RemovesFile failing name = ChangesFiles failing (drop_file name) (RemovedFile name)
 
-abbrev pub Settles : {T : Type 0} → Option StoreFails → Option StoreTold → Option StoreTold → Result T DeviceAnswer → Type 0
+abbrev pub Settles : {T : Type 0} → Option StoreFails → Option StoreTold → Option StoreTold → Result T DeviceAnswer
+    → Type 0
 Settles failing = ChangesFiles failing (λ files. files) SettledFiles
 
 -- names are appended, or none on a refusal; they are names of files
 abbrev pub AppendsNames : {T E : Type 0} → List (String Global) → List (String Global) → Result T E → Type 0
-AppendsNames old new (Ok x) = (names : List (String Global)) × (new ≡ old ++ names) × All (λ name. IsFileName (string_bytes name)) names
+AppendsNames old new (Ok x) =
+    (names : List (String Global)) × (new ≡ old ++ names) × All (λ name. IsFileName (string_bytes name)) names
 AppendsNames old new (Err e) = new ≡ old

@@ -6,7 +6,9 @@ use Rattle.world.specs.declared.faults.DeviceAnswer.{DeviceAnswer}
 -- The answer is how many of the bytes left were put at the buffer's front. None for a buffer with room is the end.
 abbrev pub Reads : Option (List ℕ) → Option (List ℕ) → List ℕ → Result ℕ Failed → Type 0
 Reads None new buffer result = new ≡ None
-Reads (Some bytes) new buffer (Ok n) = (n ≤ length bytes) × (take n buffer ≡ take n bytes) × (new ≡ Some (drop n bytes)) × (n ≡ 0 → 0 < length buffer → bytes ≡ [])
+Reads (Some bytes) new buffer (Ok n) =
+    (n ≤ length bytes) × (take n buffer ≡ take n bytes) × (new ≡ Some (drop n bytes))
+    × (n ≡ 0 → 0 < length buffer → bytes ≡ [])
 Reads (Some bytes) new buffer (Err e) = new ≡ Some bytes
 
 -- Ok appends all the bytes, a refusal some of the first of them.

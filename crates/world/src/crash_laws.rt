@@ -5,9 +5,9 @@ ghost use Rattle.world.specs.CrashImages.{IsImage};
 ghost use Rattle.world.specs.StoreCalls.{StoreTold, store_holding};
 ghost use Rattle.world.specs.SoundStores.{IsSound, StaysSound, SettlesForGood, reads_of, undone_of};
 
-/// Laws of what a store tells. It is sound before the first call and after each; then what the store reads now is one of
-/// the images that a crash may leave, and so is what undoing all that isn't settled gives. Once settled a file that was
-/// synced is as it reads, and nothing else.
+/// Laws of what a store tells. It is sound before the first call and after each; then what the store reads now is one
+/// of the images that a crash may leave, and so is what undoing all that isn't settled gives. Once settled a file that
+/// was synced is as it reads, and nothing else.
 pub fn what_a_crash_leaves()
     ensures begins { (files : List StoreFile) → InNameOrder file_name files → IsSound (store_holding files) }
     ensures goes_on { StaysSound }

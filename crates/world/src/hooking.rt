@@ -24,7 +24,8 @@ fn copied(alloc: Global, variable: &HookVar) -> Result<HookVar, AllocError>
 
 /// Appends a copy of each of these variables. Where memory runs out, some of them may stand there already.
 pub fn add_variables(into: &mut Vec<HookVar>, variables: &[HookVar]) -> Result<(), AllocError>
-    ensures { OnOk result (map variable_of into.new.items ≡ map variable_of into.old.items ++ map variable_of variables.now) }
+    ensures { OnOk result
+        (map variable_of into.new.items ≡ map variable_of into.old.items ++ map variable_of variables.now) }
 {
     let alloc = *into.allocator();
     for variable in variables {

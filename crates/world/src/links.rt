@@ -35,7 +35,8 @@ pub trait Link {
         ensures told { Begins (told self.old) (told self.new) result }
         // Where it is told which waits fail, beginning doesn't.
         ensures begun { IfSome (failing_waits self.old) (λ _. IsOk result) }
-        ensures failing { (failing_waits self.new ≡ failing_waits self.old) × (failing_sends self.new ≡ failing_sends self.old) };
+        ensures failing { (failing_waits self.new ≡ failing_waits self.old)
+            × (failing_sends self.new ≡ failing_sends self.old) };
 
     /// Waits until the moment `until` at the latest, in milliseconds since 1970; `None` waits as long as it takes.
     /// A frame is in the first bytes of `buf`.
@@ -46,7 +47,8 @@ pub trait Link {
         ensures room { IfOk result (λ wake. frame_len wake.event ≤ length buf.new) }
         ensures told { Waits until (told self.old) (told self.new) buf.new result }
         ensures foretold { Foretold (failing_waits self.old) (wait_number (told self.old)) result }
-        ensures failing { (failing_waits self.new ≡ failing_waits self.old) × (failing_sends self.new ≡ failing_sends self.old) };
+        ensures failing { (failing_waits self.new ≡ failing_waits self.old)
+            × (failing_sends self.new ≡ failing_sends self.old) };
 
     /// Offers a frame on an interface.
     fn send(&mut self, iface: IfIndex, frame: &[u8]) -> Result<(), DeviceAnswer>
@@ -54,5 +56,6 @@ pub trait Link {
         ensures no_wait { (faults self.new ≡ faults self.old) × (begins self.new ≡ begins self.old) }
         ensures told { Offers iface.number frame.now (told self.old) (told self.new) result }
         ensures foretold { Foretold (failing_sends self.old) (send_number (told self.old)) result }
-        ensures failing { (failing_waits self.new ≡ failing_waits self.old) × (failing_sends self.new ≡ failing_sends self.old) };
+        ensures failing { (failing_waits self.new ≡ failing_waits self.old)
+            × (failing_sends self.new ≡ failing_sends self.old) };
 }

@@ -6,7 +6,8 @@ use crate::rows::{HostRow, Via};
 use std::fmt;
 use std::fmt::Display;
 
-/// What a route's text has between its destination and its metric: a blank and words, or nothing for a route on the link.
+/// What a route's text has between its destination and its metric: a blank and words, or nothing for a route on the
+/// link.
 impl Display for Via {
     ghost output = { λ via. Some (way_text via) };
 

@@ -15,14 +15,16 @@ pub trait Store {
     /// The files and the calls so far, where these are told.
     ghost told: { Self → Option StoreTold };
 
-    /// Which calls fail, by their numbers from 1 over all lives, where these are told. Then a failed call changes nothing.
+    /// Which calls fail, by their numbers from 1 over all lives, where these are told. Then a failed call changes
+    /// nothing.
     ghost failing: { Self → Option StoreFails };
 
     /// Appends the names of all asides, in byte order.
     fn list_asides(&mut self, names: &mut Vec<String>) -> Result<(), DeviceAnswer>
         ensures cause { HasDeviceCause (faults self.old) (faults self.new) result }
         ensures names { AppendsNames names.old.items names.new.items result }
-        ensures told { ListsAsides (told self.old) (told self.new) (map string_bytes names.old.items) (map string_bytes names.new.items) result }
+        ensures told { ListsAsides (told self.old) (told self.new) (map string_bytes names.old.items)
+            (map string_bytes names.new.items) result }
         ensures foretold { StoreForetold (failing self.old) (store_number (told self.old)) result }
         ensures failing { failing self.new ≡ failing self.old };
 

@@ -6,7 +6,8 @@ use Rattle.std.proofs.lemmas.Bool.{ltb-true, ltb-false}
 use Rattle.world.specs.Streams.{count_after}
 use Rattle.world_mem.specs.StreamRecord.{call_fails, none_fails, next_call, calls_before, FewFailed}
 
-one_more : (number : ℕ) → 1 ≤ number → (below : Bool) → nat_lt (number + 1) (2 ^ 64) ≡ below → calls_before (if below then Some (number + 1) else None) ≡ count_after (number - 1)
+one_more : (number : ℕ) → 1 ≤ number → (below : Bool) → nat_lt (number + 1) (2 ^ 64) ≡ below
+    → calls_before (if below then Some (number + 1) else None) ≡ count_after (number - 1)
 one_more number some true is =
     let below : number + 1 < 2 ^ 64 = ltb-true (number + 1) (2 ^ 64) is in
     let within : number - 1 + 1 ≤ 2 ^ 64 - 1 = omega (arith, below, some) in

@@ -30,7 +30,8 @@ use Rattle.world_mem.proofs.StoreSteps.{All-put_file, All-drop_file, aside_named
 
 -- ---- order
 
-set_order : (name : List ℕ) (content : Option (List ℕ)) (files : List StoreFile) → InNameOrder file_name files → InNameOrder file_name (set_file name content files)
+set_order : (name : List ℕ) (content : Option (List ℕ)) (files : List StoreFile) → InNameOrder file_name files
+    → InNameOrder file_name (set_file name content files)
 set_order name None files h = drop_in_order file_name name files h
 set_order name (Some bytes) files h = put_in_order file_name (record { name = name; bytes = bytes }) files h
 
@@ -45,7 +46,8 @@ put_order sorted (file ∷ files) h = put_order (put_file file sorted) files (pu
 -- ---- soundness
 
 crash_sound : (pick : Pick) (told : StoreTold) → IsSound told → IsSound (after_crash pick told)
-crash_sound pick told sound = record { files_in_order = order pick; undo_in_order = tt; knows = λ name. known_unchanged name (file_at name (files_left pick told)) }
+crash_sound pick told sound =
+    record { files_in_order = order pick; undo_in_order = tt; knows = λ name. known_unchanged name (file_at name (files_left pick told)) }
   where
     order : (pick : Pick) → InNameOrder file_name (files_left pick told)
     order Old = undone_order told.undo told.files sound.files_in_order
@@ -56,7 +58,8 @@ step_sound told (Lists true) s = sound_after told s (ListedAsides (Some (asides 
 step_sound told (Lists false) s = sound_after told s (ListedAsides None) told.files (inl refl)
 step_sound told (Read name true) s = sound_after told s (ReadFile name (reading_of (file_at name told.files))) told.files (inl refl)
 step_sound told (Read name false) s = sound_after told s (ReadFile name Unread) told.files (inl refl)
-step_sound told (Write name bytes true) s = sound_after told s (WroteAside name bytes.items true) (put_file (record { name = aside_of name; bytes = bytes.items }) told.files) (inl refl)
+step_sound told (Write name bytes true) s =
+    sound_after told s (WroteAside name bytes.items true) (put_file (record { name = aside_of name; bytes = bytes.items }) told.files) (inl refl)
 step_sound told (Write name bytes false) s = sound_after told s (WroteAside name bytes.items false) told.files (inr (refl, refl))
 step_sound told (Sync name true) s = sound_after told s (SyncedAside name true) told.files (inl refl)
 step_sound told (Sync name false) s = sound_after told s (SyncedAside name false) told.files (inl refl)
@@ -88,7 +91,8 @@ put_named_undo : (file : UndoneFile) (undo : List UndoneFile) → All Named undo
 put_named_undo file [] a p = All-cons Named file [] p (All-nil Named)
 put_named_undo file (u ∷ undo) a p = by (name_cmp file.name u.name) (put_named_undo file undo (All-tail Named _ _ a) p)
   where
-    by : (r : Ordering) → All Named (put_undo file.name file.undo undo) → All Named (match_ordering r (file ∷ u ∷ undo) (file ∷ undo) (u ∷ put_undo file.name file.undo undo))
+    by : (r : Ordering) → All Named (put_undo file.name file.undo undo)
+        → All Named (match_ordering r (file ∷ u ∷ undo) (file ∷ undo) (u ∷ put_undo file.name file.undo undo))
     by Less h = All-cons Named file (u ∷ undo) p a
     by Equal h = All-cons Named file undo p (All-tail Named _ _ a)
     by Greater h = All-cons Named u (put_undo file.name file.undo undo) (All-head Named _ _ a) h
@@ -108,9 +112,11 @@ synced_named : (aside : List ℕ) (reads : Option (List ℕ)) (undo : List Undon
 synced_named aside None undo a = a
 synced_named aside (Some bytes) undo a = drop_named_undo aside undo a
 
-renamed_named : (name : List ℕ) (reads content : Option (List ℕ)) (undo : List UndoneFile) → IsFileName name → All Named undo → All Named (undo_renamed name reads content undo)
+renamed_named : (name : List ℕ) (reads content : Option (List ℕ)) (undo : List UndoneFile) → IsFileName name → All Named undo
+    → All Named (undo_renamed name reads content undo)
 renamed_named name reads None undo is a = a
-renamed_named name reads (Some bytes) undo is a = restored_named (aside_of name) (Some bytes) (restoring name reads undo) (aside_named name is) (restored_named name reads undo is a)
+renamed_named name reads (Some bytes) undo is a =
+    restored_named (aside_of name) (Some bytes) (restoring name reads undo) (aside_named name is) (restored_named name reads undo is a)
 
 pub step_named : (told : StoreTold) (entry : StoreEntry) → IsNamedEntry entry → UndoesNamed told → UndoesNamed (store_step told entry)
 step_named told (Lists true) is a = a
@@ -132,40 +138,48 @@ step_named told (Crash pick) is a = All-nil Named
 abbrev NamedFile : StoreFile → Type 0
 NamedFile file = IsFileName file.name
 
-set_named : (name : List ℕ) (content : Option (List ℕ)) (files : List StoreFile) → IsFileName name → All NamedFile files → All NamedFile (set_file name content files)
+set_named : (name : List ℕ) (content : Option (List ℕ)) (files : List StoreFile) → IsFileName name → All NamedFile files
+    → All NamedFile (set_file name content files)
 set_named name None files is a = All-drop_file NamedFile name files a
 set_named name (Some bytes) files is a = All-put_file NamedFile (record { name = name; bytes = bytes }) files a is
 
 pub undone_named : (undo : List UndoneFile) (files : List StoreFile) → All Named undo → All NamedFile files → All NamedFile (undone undo files)
 undone_named [] files u f = f
-undone_named (x ∷ undo) files u f = set_named x.name (content_of x.undo) (undone undo files) (All-head Named _ _ u) (undone_named undo files (All-tail Named _ _ u) f)
+undone_named (x ∷ undo) files u f =
+    set_named x.name (content_of x.undo) (undone undo files) (All-head Named _ _ u) (undone_named undo files (All-tail Named _ _ u) f)
 
 -- ---- one entry more
 
-pub told_last : (first : List MemFile) (entries : List StoreEntry) (entry : StoreEntry) → told_after first (entries ++ entry ∷ []) ≡ store_step (told_after first entries) entry
+pub told_last : (first : List MemFile) (entries : List StoreEntry) (entry : StoreEntry)
+    → told_after first (entries ++ entry ∷ []) ≡ store_step (told_after first entries) entry
 told_last first entries entry = fold-append store_step (store_start first) entries (entry ∷ [])
 
 pub told_more : (first : List MemFile) (entries : List StoreEntry) (i : ℕ) (entry : StoreEntry) → i < length entries → entry ≡ get_or entries i entry
     → told_after first (take (i + 1) entries) ≡ store_step (told_after first (take i entries)) entry
 told_more first entries i entry lt is =
-    ap (told_after first) (take_more entries i entry lt) ∙ told_last first (take i entries) (get_or entries i entry) ∙ ap (store_step (told_after first (take i entries))) (sym is)
+    ap (told_after first) (take_more entries i entry lt) ∙ told_last first (take i entries) (get_or entries i entry)
+    ∙ ap (store_step (told_after first (take i entries))) (sym is)
 
 -- ---- a crash
 
-pub old_named : {E : Type 0} (told : StoreTold) (result : Result (BTreeMap (String Global) (Vec ℕ)) E) → IfOk result (λ files. map entry_file files.entries ≡ files_left Old told)
+pub old_named : {E : Type 0} (told : StoreTold) (result : Result (BTreeMap (String Global) (Vec ℕ)) E)
+    → IfOk result (λ files. map entry_file files.entries ≡ files_left Old told)
     → IfOk result (λ files. UndoesNamed told) → IfOk result (λ files. KeepsNames told (map entry_file files.entries))
 old_named told (Ok files) are named = λ files_named. subst (All NamedFile) (sym are) (undone_named told.undo told.files named files_named)
 old_named told (Err e) are named = tt
 
-pub crash_holds : (first : List MemFile) (entries after : List StoreEntry) (pick : Pick) (held left : List (String Global × Vec ℕ)) (answered : ℕ) → after ≡ entries ++ Crash pick ∷ []
+pub crash_holds : (first : List MemFile) (entries after : List StoreEntry) (pick : Pick) (held left : List (String Global × Vec ℕ)) (answered : ℕ)
+    → after ≡ entries ++ Crash pick ∷ []
     → HoldsFiles (told_after first entries) held answered → map entry_file left ≡ files_left pick (told_after first entries)
     → KeepsNames (told_after first entries) (map entry_file left) → HoldsFiles (told_after first after) left answered
 crash_holds first entries after pick held left answered is holds files named =
     subst (λ t. HoldsFiles t left answered) (sym (ap (told_after first) is ∙ told_last first entries (Crash pick)))
     (record { files = sym files; names = subst (All NamedFile) files (named holds.names); counted = holds.counted })
 
-pub crash_left : (first : List MemFile) (entries after : List StoreEntry) (pick : Pick) (told : StoreTold) → told_after first entries ≡ told → after ≡ entries ++ Crash pick ∷ []
+pub crash_left : (first : List MemFile) (entries after : List StoreEntry) (pick : Pick) (told : StoreTold) → told_after first entries ≡ told
+    → after ≡ entries ++ Crash pick ∷ []
     → IsImage told.disk (reads_of told) (reads_of (told_after first after))
 crash_left first entries after pick told view is =
-    subst (λ t. IsImage told.disk (reads_of told) (reads_of t)) (sym (ap (told_after first) is ∙ told_last first entries (Crash pick) ∙ ap (after_crash pick) view))
+    subst (λ t. IsImage told.disk (reads_of told) (reads_of t))
+    (sym (ap (told_after first) is ∙ told_last first entries (Crash pick) ∙ ap (after_crash pick) view))
     (crash_image pick told (subst IsSound view (told_sound first entries)))

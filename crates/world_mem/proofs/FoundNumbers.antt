@@ -12,16 +12,20 @@ use Rattle.std.proofs.lemmas.Bool.{ne_eqb, cases_lt}
 use Rattle.world.specs.Causes.{has_number}
 
 found : (xs : List ℕ) (n : ℕ) (r : Result ℕ ℕ)
-    → MatchResult r (λ i. (i < length xs) × (get_or xs i 0 ≡ n)) (λ i. (i ≤ length xs) × ((k : ℕ) → k < i → get_or xs k 0 < n) × ((k : ℕ) → i ≤ k → k < length xs → n < get_or xs k 0))
+    → MatchResult r (λ i. (i < length xs) × (get_or xs i 0 ≡ n))
+    (λ i. (i ≤ length xs) × ((k : ℕ) → k < i → get_or xs k 0 < n) × ((k : ℕ) → i ≤ k → k < length xs → n < get_or xs k 0))
     → is_ok r ≡ has_number xs n
 found xs n (Ok i) h = sym (list_any_at (λ k. k == n) xs i 0 h.0 (eq-eqb (get_or xs i 0) n h.1))
 found xs n (Err i) h =
     let lacks : All (λ k. (k == n) ≡ false) xs = λ k d lt. ne_eqb (get_or xs k d) n (λ e. let here : get_or xs k 0 ≡ n = get_or_default xs k 0 d lt ∙ e in
-    ⊎_elim (λ below. absurd (let b : get_or xs k 0 < n = h.1 k below in omega arith)) (λ above. absurd (let a : n < get_or xs k 0 = h.2 k above lt in omega arith)) (cases_lt k i)) in
+    ⊎_elim (λ below. absurd (let b : get_or xs k 0 < n = h.1 k below in omega arith))
+    (λ above. absurd (let a : n < get_or xs k 0 = h.2 k above lt in omega arith)) (cases_lt k i))
+    in
     sym (list_any_none (λ k. k == n) xs lacks)
 
 -- what a binary search in rising numbers says
-pub search_has : (seen xs : List ℕ) (n : ℕ) (r : Result ℕ ℕ) → seen ≡ xs → IsNonDecreasing xs → IsBinarySearchResult (λ y. nat_cmp y n) seen r → is_ok r ≡ has_number xs n
+pub search_has : (seen xs : List ℕ) (n : ℕ) (r : Result ℕ ℕ) → seen ≡ xs → IsNonDecreasing xs → IsBinarySearchResult (λ y. nat_cmp y n) seen r
+    → is_ok r ≡ has_number xs n
 search_has seen xs n r e rises is =
     let here : IsBinarySearchResult (λ y. nat_cmp y n) xs r = rw e at is in
     found xs n r (searched xs n r here (λ i j le lt. rises i j 0 le lt))
@@ -31,5 +35,6 @@ rises_by xs true is e = non_decreasing_from_is_sorted xs true is
 rises_by xs false is e = cc
 
 -- where the test says so, the numbers rise
-pub rises_where : (seen xs : List ℕ) (r : Bool) → seen ≡ xs → IsAllAdjacentAnswer (λ x y b. is_some_and is_le (Some (nat_cmp x y)) ≡ b) seen r → r ≡ true → IsNonDecreasing xs
+pub rises_where : (seen xs : List ℕ) (r : Bool) → seen ≡ xs → IsAllAdjacentAnswer (λ x y b. is_some_and is_le (Some (nat_cmp x y)) ≡ b) seen r → r ≡ true
+    → IsNonDecreasing xs
 rises_where seen xs r e is t = rw (← e) (rises_by seen r is t)

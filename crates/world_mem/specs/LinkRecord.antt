@@ -21,7 +21,8 @@ given_of coming = record { wake = coming.wake; bytes = coming.bytes.items }
 
 -- what a wait gives of a wake to a buffer with so much room
 abbrev pub cut_given : Given → ℕ → Given
-cut_given given room = record { wake = cut_wake given room; bytes = take (frame_len (cut_wake given room).event) given.bytes }
+cut_given given room =
+    record { wake = cut_wake given room; bytes = take (frame_len (cut_wake given room).event) given.bytes }
 
 -- what a wait gives when nothing comes any more
 abbrev pub nothing_more : Given

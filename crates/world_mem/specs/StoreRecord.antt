@@ -30,7 +30,8 @@ in_name_order files = put_files [] files
 
 -- The aside of this name, where there is one, takes the place of the file.
 abbrev pub Renames : (name : List ℕ) → (old new : List StoreFile) → (there : Bool) → Type 0
-Renames name old new there = let aside = file_at (aside_of name) old in (there ≡ is_some aside) × (new ≡ rename_file name aside old)
+Renames name old new there =
+    let aside = file_at (aside_of name) old in (there ≡ is_some aside) × (new ≡ rename_file name aside old)
 
 -- a call that changes the files where it was done
 abbrev pub changed : Bool → StoreCall → (List StoreFile → List StoreFile) → StoreTold → StoreTold
@@ -43,9 +44,12 @@ store_step told (Lists true) = store_answered (ListedAsides (Some (asides told.f
 store_step told (Lists false) = store_answered (ListedAsides None) told.files told
 store_step told (Read name true) = store_answered (ReadFile name (reading_of (file_at name told.files))) told.files told
 store_step told (Read name false) = store_answered (ReadFile name Unread) told.files told
-store_step told (Write name bytes done) = changed done (WroteAside name bytes.items done) (put_file (record { name = aside_of name; bytes = bytes.items })) told
+store_step told (Write name bytes done) =
+    changed done (WroteAside name bytes.items done)
+    (put_file (record { name = aside_of name; bytes = bytes.items })) told
 store_step told (Sync name done) = changed done (SyncedAside name done) (λ files. files) told
-store_step told (Rename name done) = changed done (RenamedAside name done) (λ files. rename_file name (file_at (aside_of name) files) files) told
+store_step told (Rename name done) =
+    changed done (RenamedAside name done) (λ files. rename_file name (file_at (aside_of name) files) files) told
 store_step told (Remove name done) = changed done (RemovedFile name done) (drop_file name) told
 store_step told (Settle done) = changed done (SettledFiles done) (λ files. files) told
 store_step told (Crash pick) = after_crash pick told

@@ -47,11 +47,16 @@ FewFailed failed (Some number) = failed < number
 
 -- a read fails exactly where its number is told, and each is counted
 abbrev pub Counts : {T : Type 0} → SourceState → SourceState → Result T Failed → Type 0
-Counts old new (Ok x) = (call_fails old.next old.failing ≡ false) × (new ≡ record old { left = new.left; taken = new.taken; next = next_call old.next })
-Counts old new (Err e) = (call_fails old.next old.failing ≡ true) × (new ≡ record old { next = next_call old.next; failed = old.failed + 1 })
+Counts old new (Ok x) =
+    (call_fails old.next old.failing ≡ false)
+    × (new ≡ record old { left = new.left; taken = new.taken; next = next_call old.next })
+Counts old new (Err e) =
+    (call_fails old.next old.failing ≡ true) × (new ≡ record old { next = next_call old.next; failed = old.failed + 1 })
 
 -- a write likewise; one that answers NoMemory is not counted, and writes nothing
 abbrev pub CountsWrite : {T : Type 0} → SinkState → SinkState → Result T DeviceAnswer → Type 0
-CountsWrite old new (Ok x) = (call_fails old.next old.failing ≡ false) × (new ≡ record old { written = new.written; next = next_call old.next })
-CountsWrite old new (Err Answer.Failed) = (call_fails old.next old.failing ≡ true) × (new ≡ record old { next = next_call old.next; failed = old.failed + 1 })
+CountsWrite old new (Ok x) =
+    (call_fails old.next old.failing ≡ false) × (new ≡ record old { written = new.written; next = next_call old.next })
+CountsWrite old new (Err Answer.Failed) =
+    (call_fails old.next old.failing ≡ true) × (new ≡ record old { next = next_call old.next; failed = old.failed + 1 })
 CountsWrite old new (Err Answer.NoMemory) = new ≡ old

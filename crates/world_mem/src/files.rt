@@ -15,7 +15,10 @@ pub(crate) type Files = BTreeMap<String, Vec<u8>>;
 
 /// Puts a file at its place, or nothing where memory runs out.
 pub(crate) fn put(files: &mut Files, name: String, bytes: Vec<u8>) -> Result<(), DeviceAnswer>
-    ensures ok { OnOk result (map entry_file files.new.entries ≡ put_file (record { name = string_bytes name; bytes = bytes.items }) (map entry_file files.old.entries)) }
+    ensures ok { OnOk result
+        (map entry_file files.new.entries
+        ≡ put_file (record { name = string_bytes name; bytes = bytes.items })
+        (map entry_file files.old.entries)) }
     ensures unchanged { OnErr result (files.new.entries ≡ files.old.entries) }
     ensures err { IfErr result (λ e. e ≡ DeviceAnswer.NoMemory) }
 {

@@ -59,7 +59,8 @@ impl Model for MemHooks {
 }
 
 impl MemHooks {
-    /// Hooks whose polls are answered so in order, then by `Ended(0)`. They fail at the starts with these numbers, from 1.
+    /// Hooks whose polls are answered so in order, then by `Ended(0)`. They fail at the starts with these numbers, from
+    /// 1.
     pub fn new(alloc: Global, polls: Vec<MemPoll>, starts: Vec<u64>) -> MemHooks
         ensures { result ≡ hooks_start polls.items starts.items }
     {
@@ -127,8 +128,8 @@ impl Hooks for MemHooks {
 
     fn start(&mut self, job: &HookJob) -> Result<(), DeviceAnswer> {
         let number = next_number(self.starts)?;
-        // Room for the start, for each poll that is to be answered, for one after them and for an abandoning: those take
-        // no memory.
+        // Room for the start, for each poll that is to be answered, for one after them and for an abandoning: those
+        // take no memory.
         make_room(&mut self.calls, self.polls.len() - self.next + 3)?;
         let copy = copy_job(self.alloc, job)?;
         let done = !self.fails.has(number);

@@ -46,7 +46,9 @@ impl MemHost {
     /// A host that holds the rows at first, and fails at the calls with these numbers, from 1.
     pub fn new(alloc: Global, rows: Vec<HostRow>, fails: Vec<u64>) -> Result<MemHost, NoMemory>
         requires { All IsRow rows.items }
-        ensures { IfOk result (λ host. host ≡ record { told = record { rows = in_row_order rows.items; calls = [] }; failing = fails.items }) }
+        ensures { IfOk result
+            (λ host. host
+            ≡ record { told = record { rows = in_row_order rows.items; calls = [] }; failing = fails.items }) }
     {
         let mut held = BTreeSet::new(alloc);
         for row in &rows {

@@ -80,7 +80,13 @@ impl MemLink {
         sends: Vec<u64>,
         waits: Vec<u64>,
     ) -> MemLink
-        ensures { result ≡ record { told = link_start begin wakes.items sent; begins = 0; failing_waits = waits.items; failing_sends = sends.items } }
+        ensures { result
+            ≡ record {
+              told = link_start begin wakes.items sent;
+              begins = 0;
+              failing_waits = waits.items;
+              failing_sends = sends.items;
+            } }
     {
         MemLink {
             alloc,

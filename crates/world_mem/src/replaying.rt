@@ -29,7 +29,9 @@ pub(crate) struct Replay {
 
 impl Replay {
     fn write(&mut self, alloc: Global, name: &str, bytes: &[u8]) -> Result<(), DeviceAnswer>
-        ensures files { OnOk result (files_in self.new ≡ put_file (record { name = aside_of name.now; bytes = bytes.now }) (files_in self.old)) }
+        ensures files { OnOk result
+            (files_in self.new
+            ≡ put_file (record { name = aside_of name.now; bytes = bytes.now }) (files_in self.old)) }
         ensures undos { OnOk result (undo_in self.new ≡ put_undo (aside_of name.now) Empties (undo_in self.old)) }
     {
         let aside = aside_name(alloc, name)?;
@@ -41,7 +43,10 @@ impl Replay {
 
     fn sync(&mut self, alloc: Global, name: &str) -> Result<(), DeviceAnswer>
         ensures files { OnOk result (self.new.files.entries ≡ self.old.files.entries) }
-        ensures undos { OnOk result (undo_in self.new ≡ undo_synced (aside_of name.now) (file_at (aside_of name.now) (files_in self.old)) (undo_in self.old)) }
+        ensures undos { OnOk result
+            (undo_in self.new
+            ≡ undo_synced (aside_of name.now) (file_at (aside_of name.now) (files_in self.old))
+            (undo_in self.old)) }
     {
         let aside = aside_name(alloc, name)?;
         match bytes_of(&self.files, &aside) {
@@ -54,8 +59,13 @@ impl Replay {
     }
 
     fn rename(&mut self, alloc: Global, name: &str) -> Result<(), DeviceAnswer>
-        ensures files { OnOk result (files_in self.new ≡ rename_file name.now (file_at (aside_of name.now) (files_in self.old)) (files_in self.old)) }
-        ensures undos { OnOk result (undo_in self.new ≡ undo_renamed name.now (file_at name.now (files_in self.old)) (file_at (aside_of name.now) (files_in self.old)) (undo_in self.old)) }
+        ensures files { OnOk result
+            (files_in self.new
+            ≡ rename_file name.now (file_at (aside_of name.now) (files_in self.old)) (files_in self.old)) }
+        ensures undos { OnOk result
+            (undo_in self.new
+            ≡ undo_renamed name.now (file_at name.now (files_in self.old))
+            (file_at (aside_of name.now) (files_in self.old)) (undo_in self.old)) }
     {
         let aside = aside_name(alloc, name)?;
         let Some(bytes) = bytes_of(&self.files, &aside) else {
@@ -69,7 +79,8 @@ impl Replay {
 
     fn remove(&mut self, alloc: Global, name: &str) -> Result<(), DeviceAnswer>
         ensures files { OnOk result (files_in self.new ≡ drop_file name.now (files_in self.old)) }
-        ensures undos { OnOk result (undo_in self.new ≡ restoring name.now (file_at name.now (files_in self.old)) (undo_in self.old)) }
+        ensures undos { OnOk result
+            (undo_in self.new ≡ restoring name.now (file_at name.now (files_in self.old)) (undo_in self.old)) }
     {
         restore_one(alloc, &mut self.undos, name, bytes_of(&self.files, name))?;
         take_out(&mut self.files, name);
@@ -84,7 +95,8 @@ impl Replay {
     }
 
     fn crash(&mut self, alloc: Global, pick: Pick) -> Result<(), DeviceAnswer>
-        ensures files { OnOk result ((told : StoreTold) → Mirrors self.old told → files_in self.new ≡ files_left pick told) }
+        ensures files { OnOk result
+            ((told : StoreTold) → Mirrors self.old told → files_in self.new ≡ files_left pick told) }
         ensures undos { OnOk result (self.new.undos.entries ≡ []) }
     {
         let undos = replace(&mut self.undos, BTreeMap::new(alloc));
@@ -96,7 +108,8 @@ impl Replay {
 
     /// The files after one entry more.
     fn step(&mut self, alloc: Global, entry: &StoreEntry) -> Result<(), DeviceAnswer>
-        ensures { OnOk result ((told : StoreTold) → Mirrors self.old told → Mirrors self.new (store_step told entry.now)) }
+        ensures { OnOk result
+            ((told : StoreTold) → Mirrors self.old told → Mirrors self.new (store_step told entry.now)) }
     {
         match entry {
             StoreEntry::Write {
@@ -163,7 +176,8 @@ pub(crate) fn replayed(
 
 /// The files where all that isn't settled is undone.
 fn old_files(alloc: Global, first: &[MemFile], calls: &[StoreEntry]) -> Result<Files, NoMemory>
-    ensures files { IfOk result (λ files. map entry_file files.entries ≡ files_left Pick.Old (told_after first.now calls.now)) }
+    ensures files { IfOk result
+        (λ files. map entry_file files.entries ≡ files_left Pick.Old (told_after first.now calls.now)) }
     ensures named { IfOk result (λ files. UndoesNamed (told_after first.now calls.now)) }
 {
     let mut replay = replayed(alloc, first, calls)?;

@@ -34,7 +34,8 @@ pub struct MemFile {
     pub bytes: Vec<u8>,
 }
 
-/// A call that a store answered. What a listing or a reading gave follows from the files at first and the calls before it.
+/// A call that a store answered. What a listing or a reading gave follows from the files at first and the calls before
+/// it.
 #[derive(Drop)]
 pub(crate) enum StoreEntry {
     List {
@@ -89,14 +90,17 @@ impl Model for MemStore {
 
     ghost view = { λ store. record { told = told_after store.first.items store.calls.items; failing = store.fails } };
 
-    ghost invariant = { λ store. HoldsFiles (told_after store.first.items store.calls.items) store.files.entries store.answered };
+    ghost invariant = { λ store. HoldsFiles
+        (told_after store.first.items store.calls.items) store.files.entries store.answered };
 }
 
 impl MemStore {
     /// A store that holds the files at first, and fails at the calls with these numbers, from 1.
     pub fn new(alloc: Global, files: Vec<MemFile>, fails: Vec<u64>) -> Result<MemStore, NoMemory>
         requires { All (λ file. IsFileName (string_bytes file.name)) files.items }
-        ensures { IfOk result (λ store. store ≡ record { told = store_start files.items; failing = record { numbers = fails.items; from = None } }) }
+        ensures { IfOk result
+            (λ store. store
+            ≡ record { told = store_start files.items; failing = record { numbers = fails.items; from = None } }) }
     {
         let held = first_files(alloc, &files)?;
         Ok(MemStore {
@@ -113,7 +117,12 @@ impl MemStore {
 impl MemStore {
     /// A fuse passes so many more calls, and fails each call after them; `None` takes it out.
     pub fn set_fuse(&mut self, calls: Option<u64>)
-        ensures { self.new ≡ record self.old { failing = record self.old.failing { from = first_stopped (length self.old.told.calls) calls } } }
+        ensures { self.new
+            ≡ record
+            self.old {
+              failing = record
+                  self.old.failing { from = first_stopped (length self.old.told.calls) calls };
+            } }
     {
         self.fails.set_fuse(self.answered, calls);
     }
@@ -152,7 +161,9 @@ impl MemStore {
 /// The files at first, by their names.
 pub(crate) fn first_files(alloc: Global, files: &[MemFile]) -> Result<Files, NoMemory>
     ensures held { IfOk result (λ held. map entry_file held.entries ≡ in_name_order (map file_of files.now)) }
-    ensures named { IfOk result (λ held. All (λ file. IsFileName (string_bytes file.name)) files.now → All (λ file. IsFileName file.name) (map entry_file held.entries)) }
+    ensures named { IfOk result
+        (λ held. All (λ file. IsFileName (string_bytes file.name)) files.now
+        → All (λ file. IsFileName file.name) (map entry_file held.entries)) }
 {
     let mut held = BTreeMap::new(alloc);
     for file in files {
@@ -176,7 +187,8 @@ fn next_call(answered: u64, calls: &mut Vec<StoreEntry>) -> Result<u64, DeviceAn
 
 /// Puts a copy of a file at its place.
 fn put_copy(alloc: Global, held: &mut Files, file: &MemFile) -> Result<(), DeviceAnswer>
-    ensures { OnOk result (map entry_file held.new.entries ≡ put_file (file_of file.now) (map entry_file held.old.entries)) }
+    ensures { OnOk result
+        (map entry_file held.new.entries ≡ put_file (file_of file.now) (map entry_file held.old.entries)) }
 {
     let name = copy_text(alloc, &file.name)?;
     let bytes = copy_bytes(alloc, &file.bytes)?;
@@ -206,7 +218,8 @@ fn names_aside(name: &str) -> bool
 
 /// Appends a copy of a text, or nothing where memory runs out.
 fn push_copy(alloc: Global, names: &mut Vec<String>, name: &str) -> Result<(), DeviceAnswer>
-    ensures ok { OnOk result ((copy : String Heap) × (names.new.items ≡ names.old.items ++ copy ∷ []) × (string_bytes copy ≡ name.now)) }
+    ensures ok { OnOk result
+        ((copy : String Heap) × (names.new.items ≡ names.old.items ++ copy ∷ []) × (string_bytes copy ≡ name.now)) }
     ensures unchanged { OnErr result (names.new.items ≡ names.old.items) }
     ensures err { IfErr result (λ e. e ≡ DeviceAnswer.NoMemory) }
 {
@@ -219,7 +232,9 @@ fn push_copy(alloc: Global, names: &mut Vec<String>, name: &str) -> Result<(), D
 
 /// Appends the names of all asides, or nothing where memory runs out.
 fn append_asides(alloc: Global, files: &Files, names: &mut Vec<String>) -> Result<(), DeviceAnswer>
-    ensures ok { OnOk result ((more : List (String Heap)) × (names.new.items ≡ names.old.items ++ more) × (map string_bytes more ≡ filter is_aside (map string_bytes (keys files.now)))) }
+    ensures ok { OnOk result
+        ((more : List (String Heap)) × (names.new.items ≡ names.old.items ++ more)
+        × (map string_bytes more ≡ filter is_aside (map string_bytes (keys files.now)))) }
     ensures unchanged { OnErr result (names.new.items ≡ names.old.items) }
     ensures err { IfErr result (λ e. e ≡ DeviceAnswer.NoMemory) }
 {
@@ -237,7 +252,9 @@ fn append_asides(alloc: Global, files: &Files, names: &mut Vec<String>) -> Resul
 
 /// Appends the bytes of a file and says whether there is one, or appends nothing where memory runs out.
 fn append_file(files: &Files, name: &str, into: &mut Vec<u8>) -> Result<bool, DeviceAnswer>
-    ensures ok { IfOk result (λ found. Appended (file_at name.now (map entry_file files.now.entries)) into.old.items into.new.items found) }
+    ensures ok { IfOk result
+        (λ found. Appended
+        (file_at name.now (map entry_file files.now.entries)) into.old.items into.new.items found) }
     ensures unchanged { OnErr result (into.new.items ≡ into.old.items) }
     ensures err { IfErr result (λ e. e ≡ DeviceAnswer.NoMemory) }
 {

@@ -46,7 +46,14 @@ impl Model for MemSource {
 
     ghost Value = { SourceState };
 
-    ghost view = { λ source. record { left = drop source.at source.bytes.items; taken = source.at; next = source.next; failed = source.failed; failing = source.fails } };
+    ghost view = { λ source.
+        record {
+          left = drop source.at source.bytes.items;
+          taken = source.at;
+          next = source.next;
+          failed = source.failed;
+          failing = source.fails;
+        } };
 
     ghost invariant = { λ source. (source.at ≤ length source.bytes.items) × FewFailed source.failed source.next };
 }
@@ -115,7 +122,8 @@ impl Model for MemSink {
 
     ghost Value = { SinkState };
 
-    ghost view = { λ sink. record { written = sink.written.items; next = sink.next; failed = sink.failed; failing = sink.fails } };
+    ghost view = { λ sink.
+        record { written = sink.written.items; next = sink.next; failed = sink.failed; failing = sink.fails } };
 
     ghost invariant = { λ sink. FewFailed sink.failed sink.next };
 }

@@ -28,7 +28,8 @@ pub(crate) type Undos = BTreeMap<String, Undone>;
 
 /// What undoing makes of a file is this.
 pub(crate) fn put_one(undos: &mut Undos, name: String, undone: Undone) -> Result<(), DeviceAnswer>
-    ensures { OnOk result (undos_of undos.new.entries ≡ put_undo (string_bytes name) (undo_of undone) (undos_of undos.old.entries)) }
+    ensures { OnOk result
+        (undos_of undos.new.entries ≡ put_undo (string_bytes name) (undo_of undone) (undos_of undos.old.entries)) }
 {
     match undos.insert(name, undone) {
         Ok(_) => Ok(()),
@@ -44,7 +45,8 @@ pub(crate) fn leave_one(undos: &mut Undos, name: &str)
 }
 
 fn copy_content(alloc: Global, content: Option<&[u8]>) -> Result<Option<Vec<u8>>, DeviceAnswer>
-    ensures { IfOk result (λ copy. option_map (λ bytes. bytes.items) copy ≡ option_map (λ bytes. bytes.now) content.entry) }
+    ensures { IfOk result
+        (λ copy. option_map (λ bytes. bytes.items) copy ≡ option_map (λ bytes. bytes.now) content.entry) }
 {
     match content {
         Some(bytes) => Ok(Some(copy_bytes(alloc, bytes)?)),
@@ -59,7 +61,9 @@ fn content_at(
     name: &str,
     reads: Option<&[u8]>,
 ) -> Result<Option<Vec<u8>>, DeviceAnswer>
-    ensures { IfOk result (λ content. option_map (λ bytes. bytes.items) content ≡ undone_at name.now (option_map (λ bytes. bytes.now) reads.entry) (undos_of undos.now.entries)) }
+    ensures { IfOk result
+        (λ content. option_map (λ bytes. bytes.items) content
+        ≡ undone_at name.now (option_map (λ bytes. bytes.now) reads.entry) (undos_of undos.now.entries)) }
 {
     match undos.get(name) {
         Some(Undone::Empties) => Ok(Some(Vec::new(alloc))),
@@ -76,7 +80,9 @@ pub(crate) fn restore_one(
     name: &str,
     reads: Option<&[u8]>,
 ) -> Result<(), DeviceAnswer>
-    ensures { OnOk result (undos_of undos.new.entries ≡ restoring name.now (option_map (λ bytes. bytes.now) reads.entry) (undos_of undos.old.entries)) }
+    ensures { OnOk result
+        (undos_of undos.new.entries
+        ≡ restoring name.now (option_map (λ bytes. bytes.now) reads.entry) (undos_of undos.old.entries)) }
 {
     let content = content_at(alloc, undos, name, reads)?;
     let place = copy_text(alloc, name)?;
@@ -105,7 +111,9 @@ fn set_one(
     name: String,
     undone: Undone,
 ) -> Result<(), DeviceAnswer>
-    ensures { OnOk result (map entry_file files.new.entries ≡ set_file (string_bytes name) (content_of (undo_of undone)) (map entry_file files.old.entries)) }
+    ensures { OnOk result
+        (map entry_file files.new.entries
+        ≡ set_file (string_bytes name) (content_of (undo_of undone)) (map entry_file files.old.entries)) }
 {
     match undone {
         Undone::Empties => put(files, name, Vec::new(alloc)),
@@ -119,7 +127,8 @@ fn set_one(
 
 /// Undoes all.
 pub(crate) fn undo_all(alloc: Global, undos: Undos, files: &mut Files) -> Result<(), DeviceAnswer>
-    ensures { OnOk result (map entry_file files.new.entries ≡ undone (undos_of undos.entries) (map entry_file files.old.entries)) }
+    ensures { OnOk result
+        (map entry_file files.new.entries ≡ undone (undos_of undos.entries) (map entry_file files.old.entries)) }
 {
     let mut left = undos;
     'all: while let Some((name, undone)) = left.pop_last() {

@@ -11,6 +11,9 @@ returns-clause-ok c =
     let octets : AreBytes c.args.bytes.now = search rules in
     let formed : capture_form c.args.bytes.now ≡ Ok c.in_ok-form.form = search rules in
     let head : c.append_head.new.into.items ≡ lines_text (head_lines (spec_of c.args.name c.args.mac) c.first_moment.result) = search rules in
-    let turns : c.append_turns.new.into.items ≡ c.append_head.new.into.items ++ lines_text (turn_lines (used_of c.args.mac (packets_in c.in_ok-form.form c.split_at.result.1.now))) = search rules in
-    imported c.args.bytes.now c.split_at.result.1.now c.append_head.new.into.items c.append_turns.new.into.items c.in_ok-form.form c.args.name c.args.mac c.first_moment.result
+    let turns : c.append_turns.new.into.items
+    ≡ c.append_head.new.into.items ++ lines_text (turn_lines (used_of c.args.mac (packets_in c.in_ok-form.form c.split_at.result.1.now))) =
+    search rules in
+    imported c.args.bytes.now c.split_at.result.1.now c.append_head.new.into.items c.append_turns.new.into.items c.in_ok-form.form c.args.name c.args.mac
+    c.first_moment.result
     octets formed c.split_at.ensures.back c.first_moment.ensures head turns

@@ -22,7 +22,9 @@ invariant_of-core c =
 
 pub returns-clause-steps : goal.returns-clause-steps
 returns-clause-steps c =
-    subst (λ (own : List Mac). Steps (joined own [] (map (opened c.args.begin.up (moment_of c.args.begin.at) c.args.begin.salt) (map beginning_of c.args.beginnings.items)))
+    subst
+    (λ (own : List Mac). Steps
+    (joined own [] (map (opened c.args.begin.up (moment_of c.args.begin.at) c.args.begin.salt) (map beginning_of c.args.beginnings.items)))
     (record { own = c.in_ok-own.own.items; ifaces = c.in_ok-ifaces.ifaces.items }) (asked_in c.opened_ifaces.new.outs)) c.in_ok-own.ensures
     (joined_steps (opened c.args.begin.up (moment_of c.args.begin.at) c.args.begin.salt) (map beginning_of c.args.beginnings.items) c.in_ok-own.own.items []
     c.in_ok-ifaces.ifaces.items (asked_in c.new-outs.result) (asked_in c.opened_ifaces.new.outs) c.new-outs.ensures c.in_ok-ifaces.ensures.goes)

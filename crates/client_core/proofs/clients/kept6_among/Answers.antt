@@ -11,4 +11,5 @@ returns-in_err-iface-clause-value c =
 
 pub returns-clause-value : goal.returns-clause-value
 returns-clause-value c =
-    c.iface_kept6.ensures.value ∙ kept6_by_one c.args.index.number c.args.ifaces.now c.in_ok-iface.iface.now (ap option_copied (sym c.in_ok-iface.was) ∙ c.iface_of.ensures)
+    c.iface_kept6.ensures.value
+    ∙ kept6_by_one c.args.index.number c.args.ifaces.now c.in_ok-iface.iface.now (ap option_copied (sym c.in_ok-iface.was) ∙ c.iface_of.ensures)

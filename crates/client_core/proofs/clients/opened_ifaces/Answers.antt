@@ -60,8 +60,11 @@ loop-beginning-preserved c =
     c.in_ok-iface.ensures.hooks ∙ ap (λ (first : List jobs.Told). first ++ told_in (step one)) c.loop-beginning.invariant.untold in
     record {
       whole = append_assoc c.loop-beginning.yielded (one ∷ []) rest ∙ whole;
-      went = go_untold step (c.loop-beginning.yielded ++ one ∷ []) c.push.new.self.items (asked_in c.args.outs.now) (asked_in c.iface_open.new.outs) (asked_in c.make_jobs.new.outs)
-          (go_next step c.loop-beginning.yielded one ifaces c.push.new.self.items c.in_ok-iface.iface (asked_in c.args.outs.now) (asked_in c.loop-beginning.outs)
+      went =
+          go_untold step (c.loop-beginning.yielded ++ one ∷ []) c.push.new.self.items (asked_in c.args.outs.now) (asked_in c.iface_open.new.outs)
+          (asked_in c.make_jobs.new.outs)
+          (go_next step c.loop-beginning.yielded one ifaces c.push.new.self.items c.in_ok-iface.iface (asked_in c.args.outs.now)
+          (asked_in c.loop-beginning.outs)
           (asked_in c.iface_open.new.outs) c.in_ok-push.ensures.items c.loop-beginning.invariant.went c.in_ok-iface.ensures)
           c.in_ok-make_jobs.ensures.outs;
       fit = opened_more c.args.begin.up c.clamp_moment.result c.args.begin.salt (beginning_of one) ifaces c.push.new.self.items c.in_ok-iface.iface
@@ -79,11 +82,17 @@ pub returns-clause-goes : goal.returns-clause-goes
 returns-clause-goes c =
     let all : List Beginning = c.args.beginnings.items in
     let ifaces : List Iface = c.loop-beginning.ifaces.items in
-    subst (λ (at : ℕ). GoAll (opened c.args.begin.up at c.args.begin.salt) (map beginning_of all) ifaces (asked_in c.args.outs.now) (asked_in c.loop-beginning.outs))
+    subst
+    (λ (at : ℕ). GoAll (opened c.args.begin.up at c.args.begin.salt) (map beginning_of all) ifaces (asked_in c.args.outs.now)
+    (asked_in c.loop-beginning.outs))
     c.clamp_moment.ensures
-    (go_mapped beginning_of (opened c.args.begin.up c.clamp_moment.result c.args.begin.salt) all ifaces (asked_in c.args.outs.now) (asked_in c.loop-beginning.outs)
-    (subst (λ (bs : List Beginning). GoAll (λ (b : Beginning). opened c.args.begin.up c.clamp_moment.result c.args.begin.salt (beginning_of b)) bs ifaces (asked_in c.args.outs.now) (asked_in c.loop-beginning.outs))
-    (all_taken c.loop-beginning.yielded c.loop-beginning.beginning-iterator.rest.items all c.loop-beginning.beginning-iterator.rest.len c.loop-beginning.invariant.whole
+    (go_mapped beginning_of (opened c.args.begin.up c.clamp_moment.result c.args.begin.salt) all ifaces (asked_in c.args.outs.now)
+    (asked_in c.loop-beginning.outs)
+    (subst
+    (λ (bs : List Beginning). GoAll (λ (b : Beginning). opened c.args.begin.up c.clamp_moment.result c.args.begin.salt (beginning_of b)) bs ifaces
+    (asked_in c.args.outs.now) (asked_in c.loop-beginning.outs))
+    (all_taken c.loop-beginning.yielded c.loop-beginning.beginning-iterator.rest.items all c.loop-beginning.beginning-iterator.rest.len
+    c.loop-beginning.invariant.whole
     c.loop-beginning.beginning-iterator.rest.ok.0 c.in-None.ensures.steps.0)
     c.loop-beginning.invariant.went))
 

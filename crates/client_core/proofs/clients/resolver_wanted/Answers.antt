@@ -11,6 +11,8 @@ use Rattle.client_core.proofs.clients.resolver_wanted.Goals as goal
 pub returns : goal.returns
 returns c =
     IfOk-weaker c.parts_text.result _ _
-    (λ text is. is ∙ ap (λ (parts : List PartContent). some_text (resolver_text parts)) (ap parts_content c.deref-2.ensures.value ∙ (subst (IsRunning c.core.inside.ifaces.items) (sym c.deref.ensures) c.core.invariant).tells)
+    (λ text is. is
+    ∙ ap (λ (parts : List PartContent). some_text (resolver_text parts))
+    (ap parts_content c.deref-2.ensures.value ∙ (subst (IsRunning c.core.inside.ifaces.items) (sym c.deref.ensures) c.core.invariant).tells)
     ∙ text_told c.core.inside.ifaces.items ∙ ap (λ (client : Client). resolver_wanted client.ifaces) c.core.view_is)
     c.parts_text.ensures

@@ -23,7 +23,9 @@ turn_all-requires-clause-running c =
 pub invariant_of-core : goal.invariant_of-core
 invariant_of-core c =
     subst (λ (ifaces : List Iface). IsRunning ifaces c.turn_all.new.kept)
-    (sym (placed c.deref.result.now (turn_of c.args.turn) c.core.inside.ifaces c.deref_mut.result.now c.turn_all.new.ifaces (asked_in c.new-outs.result) (asked_in c.turn_all.new.outs)
+    (sym
+    (placed c.deref.result.now (turn_of c.args.turn) c.core.inside.ifaces c.deref_mut.result.now c.turn_all.new.ifaces (asked_in c.new-outs.result)
+    (asked_in c.turn_all.new.outs)
     c.in_ok-turned.ensures.goes c.deref_mut.ensures.value))
     c.in_ok-turned.ensures.running
 
@@ -34,17 +36,25 @@ returns-clause-steps c =
     let new : List Iface = c.turn_all.new.ifaces in
     turned_steps c.args.core c.core.inside.own.items turn all.items (with_items all new).items (asked_in c.new-outs.result) (asked_in c.turn_all.new.outs)
     c.core.view_is c.new-outs.ensures
-    (subst (λ (own : List Mac). GoAll (iface_turned own turn) all.items (with_items all new).items (asked_in c.new-outs.result) (asked_in c.turn_all.new.outs)) c.deref.ensures.value
-    (in_place c.deref.result.now turn all c.deref_mut.result.now new (asked_in c.new-outs.result) (asked_in c.turn_all.new.outs) c.in_ok-turned.ensures.goes c.deref_mut.ensures.value))
+    (subst
+    (λ (own : List Mac). GoAll (iface_turned own turn) all.items (with_items all new).items (asked_in c.new-outs.result) (asked_in c.turn_all.new.outs))
+    c.deref.ensures.value
+    (in_place c.deref.result.now turn all c.deref_mut.result.now new (asked_in c.new-outs.result)
+    (asked_in c.turn_all.new.outs) c.in_ok-turned.ensures.goes c.deref_mut.ensures.value))
 
 pub returns-clause-on_interfaces : goal.returns-clause-on_interfaces
 returns-clause-on_interfaces c =
     let turn : Turn = turn_of c.args.turn in
     let all : Vec Iface = c.core.inside.ifaces in
     let new : List Iface = c.turn_all.new.ifaces in
-    joined_on (iface_turned c.deref.result.now turn) all.items (with_items all new).items (asked_in c.new-outs.result) (asked_in c.turn_all.new.outs) c.new-outs.ensures
-    (in_place c.deref.result.now turn all c.deref_mut.result.now new (asked_in c.new-outs.result) (asked_in c.turn_all.new.outs) c.in_ok-turned.ensures.goes c.deref_mut.ensures.value)
-    (subst AreIfaces (sym (placed c.deref.result.now turn all c.deref_mut.result.now new (asked_in c.new-outs.result) (asked_in c.turn_all.new.outs) c.in_ok-turned.ensures.goes c.deref_mut.ensures.value))
+    joined_on (iface_turned c.deref.result.now turn) all.items (with_items all new).items (asked_in c.new-outs.result)
+    (asked_in c.turn_all.new.outs) c.new-outs.ensures
+    (in_place c.deref.result.now turn all c.deref_mut.result.now new (asked_in c.new-outs.result)
+    (asked_in c.turn_all.new.outs) c.in_ok-turned.ensures.goes c.deref_mut.ensures.value)
+    (subst AreIfaces
+    (sym
+    (placed c.deref.result.now turn all c.deref_mut.result.now new (asked_in c.new-outs.result)
+    (asked_in c.turn_all.new.outs) c.in_ok-turned.ensures.goes c.deref_mut.ensures.value))
     c.in_ok-turned.ensures.running.fit)
 
 pub returns-clause-untouched : goal.returns-clause-untouched

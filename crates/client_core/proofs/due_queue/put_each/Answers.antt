@@ -11,9 +11,12 @@ loop-machine-init c = puts_none c.args.place (dues_of c.args.iface.now) c.args.q
 pub loop-machine-preserved : goal.loop-machine-preserved
 loop-machine-preserved c =
     let rank = c.loop-machine.machine-index in let number = number_of c.args.place (at_rank rank) in
-    puts_more c.args.place rank (at_rank rank) (dues_of c.args.iface.now) c.args.queue.now c.loop-machine.queue c.put_one.new.queue (rank_at rank c.loop-machine-test.true)
+    puts_more c.args.place rank (at_rank rank) (dues_of c.args.iface.now) c.args.queue.now c.loop-machine.queue c.put_one.new.queue
+    (rank_at rank c.loop-machine-test.true)
     c.loop-machine.invariant
     (λ key. c.put_one.ensures key ∙ ap (λ (due : Option ℕ). cond (nat_eq key number) due (finite.get c.loop-machine.queue key)) c.machine_due.ensures)
 
 pub returns : goal.returns
-returns c = puts_all c.args.place c.loop-machine.machine-index (dues_of c.args.iface.now) c.args.queue.now c.loop-machine.queue c.requires c.loop-machine-test.false c.loop-machine.invariant
+returns c =
+    puts_all c.args.place c.loop-machine.machine-index
+    (dues_of c.args.iface.now) c.args.queue.now c.loop-machine.queue c.requires c.loop-machine-test.false c.loop-machine.invariant

@@ -7,7 +7,8 @@ use Rattle.client_core.proofs.iface_tables.tables_of.Goals as goal
 
 pub rows_of-requires : goal.rows_of-requires
 rows_of-requires c =
-    (subst FitsIface (sym c.iface-item.is) (each_of FitsIface c.args.ifaces.now c.loop-iface.iface-index c.iface-item.result c.loop-iface-test.true c.requires)).managed
+    (subst FitsIface (sym c.iface-item.is)
+    (each_of FitsIface c.args.ifaces.now c.loop-iface.iface-index c.iface-item.result c.loop-iface-test.true c.requires)).managed
 
 pub loop-iface-preserved : goal.loop-iface-preserved
 loop-iface-preserved c =

@@ -6,7 +6,8 @@ use Rattle.client_core.proofs.Sets.{none_from, found_here, none_before, some_of}
 use Rattle.client_core.proofs.places.next_bit.Goals as goal
 
 pub returns-then-rest-eq0-clause-skips : goal.returns-then-rest-eq0-clause-skips
-returns-then-rest-eq0-clause-skips c = λ place le lt. none_from (record { bits = c.args.bits }) c.args.from _ refl c.if-rest-eq0.true place le (omega (arith, c.min.ensures, lt))
+returns-then-rest-eq0-clause-skips c =
+    λ place le lt. none_from (record { bits = c.args.bits }) c.args.from _ refl c.if-rest-eq0.true place le (omega (arith, c.min.ensures, lt))
 
 pub returns-clause-found : goal.returns-clause-found
 returns-clause-found c =

@@ -13,5 +13,6 @@ returns c =
           let names : map string_bytes c.args.one.now.names.items ≡ map string_bytes c.args.other.now.names.items =
           ap (map string_bytes) (sym c.deref-3.ensures.value) ∙ c.same_names.ensures.0 yes ∙ ap (map string_bytes) c.deref-4.ensures.value in
           λ i. record { metric = alike.0 i; index = alike.1.0 i; name = alike.1.1.0 i; family = alike.1.1.1 i; servers = servers i; names = names i },
-      λ same. c.same_names.ensures.1 (ap (map string_bytes) c.deref-3.ensures.value ∙ ap (λ (part : PartContent). part.names) same ∙ ap (map string_bytes) (sym c.deref-4.ensures.value)),
+      λ same. c.same_names.ensures.1
+          (ap (map string_bytes) c.deref-3.ensures.value ∙ ap (λ (part : PartContent). part.names) same ∙ ap (map string_bytes) (sym c.deref-4.ensures.value)),
     )

@@ -22,14 +22,16 @@ places-init c =
     (is_near turn xs c.args.kept.now c.take-busy.new.self c.take-busy.result c.requires.running c.take-busy.ensures)
     (is_idle turn xs c.args.kept.now c.take-busy.new.self c.take-busy.result c.requires.running c.take-busy.ensures)
     0 c.next_from-place.result c.next_from-place.ensures.from c.next_from-place.ensures.end c.next_from-place.ensures.skips
-    (begun c.args.own.now turn xs c.args.kept.now c.take-busy.new.self c.take-busy.result c.new-walk.result (asked_in c.args.outs.now) (map job_of c.args.jobs.now.items)
+    (begun c.args.own.now turn xs c.args.kept.now c.take-busy.new.self c.take-busy.result c.new-walk.result (asked_in c.args.outs.now)
+    (map job_of c.args.jobs.now.items)
     c.requires.running c.take-busy.ensures c.new-walk.ensures.touched c.new-walk.ensures.resolver c.new-walk.ensures.rows c.requires.told)
 
 pub renew-requires-clause-fit : goal.renew-requires-clause-fit
 renew-requires-clause-fit c =
     subst (λ (one : Iface). FitsManaged one.managed)
     (sym (put_there _ _ _ c.places-test.true c.places.invariant c.index-ifaces-place-in-places.result c.turn_iface.new.iface))
-    (fits_after _ _ _ c.places-test.true c.places.invariant c.in_ok-changes.changes c.index-ifaces-place.result c.in_ok-changes.ensures.goes c.in_ok-changes.ensures.leaves c.requires.running.fit)
+    (fits_after _ _ _ c.places-test.true c.places.invariant c.in_ok-changes.changes c.index-ifaces-place.result c.in_ok-changes.ensures.goes
+    c.in_ok-changes.ensures.leaves c.requires.running.fit)
 
 pub renew-requires-clause-place : goal.renew-requires-clause-place
 renew-requires-clause-place c = has_place _ _ _ c.places-test.true c.places.invariant
@@ -39,11 +41,13 @@ renew-requires-clause-same c =
     λ (few : _).
     subst (λ (one : Iface). IsAt c.places.place one c.places.kept)
     (sym (put_there _ _ _ c.places-test.true c.places.invariant c.index-ifaces-place-in-places.result c.turn_iface.new.iface))
-    (is_there _ _ _ c.places-test.true c.places.invariant c.in_ok-changes.changes c.index-ifaces-place.result c.in_ok-changes.ensures.goes c.in_ok-changes.ensures.leaves few)
+    (is_there _ _ _ c.places-test.true c.places.invariant c.in_ok-changes.changes c.index-ifaces-place.result c.in_ok-changes.ensures.goes
+    c.in_ok-changes.ensures.leaves few)
 
 pub make_jobs-requires : goal.make_jobs-requires
 make_jobs-requires c =
-    all_fit _ _ _ c.places-test.true c.places.invariant c.in_ok-changes.changes c.index-ifaces-place.result c.in_ok-changes.ensures.goes c.in_ok-changes.ensures.leaves c.requires.running.fit
+    all_fit _ _ _ c.places-test.true c.places.invariant c.in_ok-changes.changes c.index-ifaces-place.result c.in_ok-changes.ensures.goes
+    c.in_ok-changes.ensures.leaves c.requires.running.fit
 
 pub places-preserved : goal.places-preserved
 places-preserved c =
@@ -51,7 +55,8 @@ places-preserved c =
     let xs : List Iface = c.args.ifaces.now in
     let ys : List Iface = c.places.ifaces in
     let new : Iface = c.turn_iface.new.iface in
-    let put : ((one : Iface) → get_or (set ys c.places.place new) c.places.place one ≡ new) = λ one. put_there _ _ _ c.places-test.true c.places.invariant one new in
+    let put : ((one : Iface) → get_or (set ys c.places.place new) c.places.place one ≡ new) =
+    λ one. put_there _ _ _ c.places-test.true c.places.invariant one new in
     let long : length (set ys c.places.place new) ≡ length xs =
     length-set ys c.places.place new ∙ as_long (turned c.args.own.now turn) xs ys c.places.place c.places.invariant.go_on in
     skipped c.args.own.now turn xs _ _ _ _ _ _ _ c.take-busy.result
@@ -59,10 +64,13 @@ places-preserved c =
     (is_idle turn xs c.args.kept.now c.take-busy.new.self c.take-busy.result c.requires.running c.take-busy.ensures)
     (c.places.place + 1) c.next_from-place-in-places.result c.next_from-place-in-places.ensures.from
     (subst (λ (n : ℕ). c.next_from-place-in-places.result ≤ n) long c.next_from-place-in-places.ensures.end) c.next_from-place-in-places.ensures.skips
-    (one_more _ _ _ c.places-test.true c.places.invariant c.in_ok-changes.changes c.index-ifaces-place.result c.in_ok-changes.ensures.goes c.in_ok-changes.ensures.leaves c.add.new.self
-    (subst (λ (one : Iface). Renews c.places.place one c.in_ok-renewed.renewed c.places.kept c.renew.new.self) (put c.index-ifaces-place-in-places.result) c.in_ok-renewed.ensures)
+    (one_more _ _ _ c.places-test.true c.places.invariant c.in_ok-changes.changes c.index-ifaces-place.result c.in_ok-changes.ensures.goes
+    c.in_ok-changes.ensures.leaves c.add.new.self
+    (subst (λ (one : Iface). Renews c.places.place one c.in_ok-renewed.renewed c.places.kept c.renew.new.self)
+    (put c.index-ifaces-place-in-places.result) c.in_ok-renewed.ensures)
     (c.in_ok-add.ensures.touched
-    ∙ ap (λ (one : Iface). c.places.walk.touched.ifaces.items ++ noted (may_keep c.in_ok-changes.changes) one.managed.spec.index) (put c.index-ifaces-place-in-places-2.result))
+    ∙ ap (λ (one : Iface). c.places.walk.touched.ifaces.items ++ noted (may_keep c.in_ok-changes.changes) one.managed.spec.index)
+    (put c.index-ifaces-place-in-places-2.result))
     c.in_ok-add.ensures.resolver c.in_ok-add.ensures.rows c.in_ok-make_jobs.ensures.jobs c.in_ok-make_jobs.ensures.outs)
 
 pub returns-clause-goes : goal.returns-clause-goes

@@ -5,4 +5,5 @@ use Rattle.conf_text.specs.Settings.{variable_said}
 use Rattle.conf_text.proofs.hooks.add_env.Given as goal
 
 abbrev pub invariant-loop-said : goal.invariant-loop-said
-invariant-loop-said l = map variable_of l.into.items ≡ map variable_of l.initial.into.items ++ map (λ said. variable_said (env_content said)) (take l.said-index l.env)
+invariant-loop-said l =
+    map variable_of l.into.items ≡ map variable_of l.initial.into.items ++ map (λ said. variable_said (env_content said)) (take l.said-index l.env)

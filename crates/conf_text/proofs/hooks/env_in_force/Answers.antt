@@ -11,5 +11,7 @@ pub returns : goal.returns
 returns c =
     c.in_ok-add_env-2.ensures
     ∙ ap (λ (front : List Variable). front ++ map (λ (said : Env). variable_said (env_content said)) c.args.block.now)
-    (c.in_ok-add_env.ensures ∙ ap (λ (none : List HookVar). map variable_of none ++ map (λ (said : Env). variable_said (env_content said)) c.args.global.now) c.new-env.ensures.items)
+    (c.in_ok-add_env.ensures
+    ∙ ap
+    (λ (none : List HookVar). map variable_of none ++ map (λ (said : Env). variable_said (env_content said)) c.args.global.now) c.new-env.ensures.items)
     ∙ mapped_both variable_said env_content c.args.global.now c.args.block.now

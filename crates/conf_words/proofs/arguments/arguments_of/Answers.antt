@@ -17,7 +17,8 @@ arguments-preserved c =
     let more : map shown_argument c.push.new.self.items ≡ map shown_argument c.arguments.arguments.items ++ shown_argument c.in-Some.argument ∷ [] =
     ap (map shown_argument) c.in_ok-push.ensures.items ∙ map-append shown_argument c.arguments.arguments.items (c.in-Some.argument ∷ []) in
     subst (λ (all : List Said). Leads BeginsWithArgument all c.args.about.now c.in-Some.others.now) (sym more)
-    (leads_more BeginsWithArgument (map shown_argument c.arguments.arguments.items) (shown_argument c.in-Some.argument) c.args.about.now c.arguments.rest.now c.in-Some.others.now c.arguments.invariant begins)
+    (leads_more BeginsWithArgument (map shown_argument c.arguments.arguments.items)
+    (shown_argument c.in-Some.argument) c.args.about.now c.arguments.rest.now c.in-Some.others.now c.arguments.invariant begins)
 
 pub returns : goal.returns
 returns c = (c.arguments.rest.now, c.arguments.invariant, argument_none c.arguments.rest.now (sym c.in_default.ensures))

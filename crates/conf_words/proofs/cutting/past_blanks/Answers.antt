@@ -17,4 +17,6 @@ pub returns-in-None : goal.returns-in-None
 returns-in-None c =
     take_rest c.args.text.now (length c.args.text.now)
     ∙ drop_of_length-le c.args.text.now (omega arith)
-    ∙ sym (past_all parts_words c.args.text.now (only_where parts_words is_of_word (λ b. not_not (parts_words b)) c.args.text.now (sym c.place_of_word.ensures.place ∙ c.in-None.is)))
+    ∙ sym
+    (past_all parts_words c.args.text.now
+    (only_where parts_words is_of_word (λ b. not_not (parts_words b)) c.args.text.now (sym c.place_of_word.ensures.place ∙ c.in-None.is)))

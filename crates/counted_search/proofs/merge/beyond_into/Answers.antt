@@ -6,7 +6,9 @@ pub lacked-preserved-then-is_among : goal.lacked-preserved-then-is_among
 lacked-preserved-then-is_among g c =
     let i = c.lacked.invariant in let among = c.is_among.ensures in
     record {
-      merged = merged_there g.met.K.Ord.total c.args.keys.now c.args.others.now c.lacked.found.items c.lacked.key-index c.lacked.place c.key-item.result c.requires.keys c.lacked-test.true c.key-item.is
+      merged =
+          merged_there g.met.K.Ord.total c.args.keys.now c.args.others.now c.lacked.found.items c.lacked.key-index c.lacked.place c.key-item.result
+          c.requires.keys c.lacked-test.true c.key-item.is
           i.merged c.is_among.new.place among.passed (sym among.answer ∙ c.if-is_among.true);
       filled = omega (arith, i.filled);
       room = i.room;
@@ -20,7 +22,9 @@ lacked-preserved g c =
     let i = c.lacked.invariant in let among = c.is_among.ensures in
     let new : c.push.new.self.items ≡ c.lacked.found.items ++ c.key-item.result ∷ [] = search rules in
     record {
-      merged = merged_lacked g.met.K.Ord.total c.args.keys.now c.args.others.now c.lacked.found.items c.lacked.key-index c.lacked.place c.key-item.result c.requires.keys c.lacked-test.true c.key-item.is
+      merged =
+          merged_lacked g.met.K.Ord.total c.args.keys.now c.args.others.now c.lacked.found.items c.lacked.key-index c.lacked.place c.key-item.result
+          c.requires.keys c.lacked-test.true c.key-item.is
           i.merged c.is_among.new.place among.passed c.push.new.self.items (sym among.answer ∙ c.if-is_among.false) new;
       filled = omega (arith, i.filled, c.push.ensures.upper_bound);
       room = omega (arith, i.room, c.push.ensures.capacity);

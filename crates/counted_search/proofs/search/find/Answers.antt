@@ -11,9 +11,13 @@ halves-preserved-in-Less g c =
     record {
       ordered = omega arith;
       within = omega arith;
-      narrowed = from_less ord keys low high middle (omega arith) i.narrowed (read_at (λ y. ord y ≡ Less) keys middle c.index-keys-middle.result (omega arith) c.index-keys-middle.is (sym c.in-Less.ensures.order));
+      narrowed =
+          from_less ord keys low high middle (omega arith) i.narrowed
+          (read_at (λ y. ord y ≡ Less) keys middle c.index-keys-middle.result (omega arith) c.index-keys-middle.is (sym c.in-Less.ensures.order));
       grows = omega (arith, c.compare.ensures.grows);
-      enough = λ n short. one_step (high - low) (high - (middle + 1)) c.halves.steps c.compare.new.self _ (omega arith) (omega arith) (omega (arith, c.compare.ensures.one)) (i.enough n short);
+      enough =
+          λ n short. one_step (high - low) (high - (middle + 1)) c.halves.steps c.compare.new.self _ (omega arith) (omega arith)
+          (omega (arith, c.compare.ensures.one)) (i.enough n short);
     }
 
 pub halves-preserved : goal.halves-preserved
@@ -24,7 +28,11 @@ halves-preserved g c =
     record {
       ordered = omega arith;
       within = omega arith;
-      narrowed = from_greater ord keys low high middle i.narrowed (read_at (λ y. ord y ≡ Greater) keys middle c.index-keys-middle.result (omega arith) c.index-keys-middle.is (sym c.in-Greater.ensures.order));
+      narrowed =
+          from_greater ord keys low high middle i.narrowed
+          (read_at (λ y. ord y ≡ Greater) keys middle c.index-keys-middle.result (omega arith) c.index-keys-middle.is (sym c.in-Greater.ensures.order));
       grows = omega (arith, c.compare.ensures.grows);
-      enough = λ n short. one_step (high - low) (middle - low) c.halves.steps c.compare.new.self _ (omega arith) (omega arith) (omega (arith, c.compare.ensures.one)) (i.enough n short);
+      enough =
+          λ n short. one_step (high - low) (middle - low) c.halves.steps c.compare.new.self _ (omega arith) (omega arith) (omega (arith, c.compare.ensures.one))
+          (i.enough n short);
     }

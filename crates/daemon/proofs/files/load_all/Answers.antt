@@ -22,12 +22,18 @@ returns-in_err-found-clause-begun g c = on_err c.from_residual.result (own_begun
 
 pub returns-in_err-got-clause-begun : goal.returns-in_err-got-clause-begun
 returns-in_err-got-clause-begun g c =
-    on_err c.from_residual-in_err-got.result (resolver_begun c.args.managed.now (map beginning_of c.in_ok-found.found.beginnings.items) _ _ _ _ _ _ _ refl c.in_ok-found.ensures.loads c.in_err-got.ensures.begun)
+    on_err c.from_residual-in_err-got.result
+    (resolver_begun c.args.managed.now
+    (map beginning_of c.in_ok-found.found.beginnings.items) _ _ _ _ _ _ _ refl c.in_ok-found.ensures.loads c.in_err-got.ensures.begun)
 
 pub returns-in_err-file-clause-begun : goal.returns-in_err-file-clause-begun
 returns-in_err-file-clause-begun g c =
-    on_err c.from_residual-in_err-file.result (resolver_begun c.args.managed.now (map beginning_of c.in_ok-found.found.beginnings.items) _ _ _ _ _ _ _ refl c.in_ok-found.ensures.loads (begun_all (Then (Read resolver_file) Done) (got_reading c.in_ok-got.got) _ _ _ _ c.in_ok-got.ensures.does))
+    on_err c.from_residual-in_err-file.result
+    (resolver_begun c.args.managed.now (map beginning_of c.in_ok-found.found.beginnings.items) _ _ _ _ _ _ _ refl c.in_ok-found.ensures.loads
+    (begun_all (Then (Read resolver_file) Done) (got_reading c.in_ok-got.got) _ _ _ _ c.in_ok-got.ensures.does))
 
 pub returns-in_err-push_file-clause-begun : goal.returns-in_err-push_file-clause-begun
 returns-in_err-push_file-clause-begun g c =
-    on_err c.from_residual-in_err-push_file.result (resolver_begun c.args.managed.now (map beginning_of c.in_ok-found.found.beginnings.items) _ _ _ _ _ _ _ refl c.in_ok-found.ensures.loads (begun_all (Then (Read resolver_file) Done) (got_reading c.in_ok-got.got) _ _ _ _ c.in_ok-got.ensures.does))
+    on_err c.from_residual-in_err-push_file.result
+    (resolver_begun c.args.managed.now (map beginning_of c.in_ok-found.found.beginnings.items) _ _ _ _ _ _ _ refl c.in_ok-found.ensures.loads
+    (begun_all (Then (Read resolver_file) Done) (got_reading c.in_ok-got.got) _ _ _ _ c.in_ok-got.ensures.does))

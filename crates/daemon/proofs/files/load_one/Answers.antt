@@ -34,18 +34,24 @@ returns-in_err-name6-clause-begun g c =
 
 pub returns-in_err-lease4-clause-begun : goal.returns-in_err-lease4-clause-begun
 returns-in_err-lease4-clause-begun g c =
-    on_err c.from_residual-in_err-lease4.result (lease4_begun c.args.managed.now c.runs_dhcp4-runs4.result c.deref.result.now c.runs_dhcp4-runs4.ensures (c.deref.ensures ∙ c.in_ok-name4.ensures.name) _ _ c.in_err-lease4.ensures.begun)
+    on_err c.from_residual-in_err-lease4.result
+    (lease4_begun c.args.managed.now c.runs_dhcp4-runs4.result c.deref.result.now c.runs_dhcp4-runs4.ensures
+    (c.deref.ensures ∙ c.in_ok-name4.ensures.name) _ _ c.in_err-lease4.ensures.begun)
 
 pub returns-in_err-lease6-clause-begun : goal.returns-in_err-lease6-clause-begun
 returns-in_err-lease6-clause-begun g c =
     on_err c.from_residual-in_err-lease6.result
     (lease6_begun c.args.managed.now c.runs_dhcp4-runs4.result c.deref.result.now c.runs_dhcp4-runs4.ensures (c.deref.ensures ∙ c.in_ok-name4.ensures.name)
-    c.runs_dhcp6-runs6.result c.deref-2.result.now (option_map got_reading c.in_ok-lease4.lease4) _ _ _ _ _ c.runs_dhcp6-runs6.ensures (c.deref-2.ensures ∙ c.in_ok-name6.ensures.name)
+    c.runs_dhcp6-runs6.result c.deref-2.result.now (option_map got_reading c.in_ok-lease4.lease4) _ _ _ _ _ c.runs_dhcp6-runs6.ensures
+    (c.deref-2.ensures ∙ c.in_ok-name6.ensures.name)
     c.in_ok-lease4.ensures.does c.in_err-lease6.ensures.begun)
 
 pub returns-in_err-beginning-clause-begun : goal.returns-in_err-beginning-clause-begun
 returns-in_err-beginning-clause-begun g c =
     on_err c.from_residual-in_err-beginning.result
     (lease6_begun c.args.managed.now c.runs_dhcp4-runs4.result c.deref.result.now c.runs_dhcp4-runs4.ensures (c.deref.ensures ∙ c.in_ok-name4.ensures.name)
-    c.runs_dhcp6-runs6.result c.deref-2.result.now (option_map got_reading c.in_ok-lease4.lease4) _ _ _ _ _ c.runs_dhcp6-runs6.ensures (c.deref-2.ensures ∙ c.in_ok-name6.ensures.name)
-    c.in_ok-lease4.ensures.does (begun_all (reading_if c.runs_dhcp6-runs6.result c.deref-2.result.now) (option_map got_reading c.in_ok-lease6.lease6) _ _ _ _ c.in_ok-lease6.ensures.does))
+    c.runs_dhcp6-runs6.result c.deref-2.result.now (option_map got_reading c.in_ok-lease4.lease4) _ _ _ _ _ c.runs_dhcp6-runs6.ensures
+    (c.deref-2.ensures ∙ c.in_ok-name6.ensures.name)
+    c.in_ok-lease4.ensures.does
+    (begun_all (reading_if c.runs_dhcp6-runs6.result c.deref-2.result.now)
+    (option_map got_reading c.in_ok-lease6.lease6) _ _ _ _ c.in_ok-lease6.ensures.does))

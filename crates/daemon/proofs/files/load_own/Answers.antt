@@ -6,4 +6,5 @@ use Rattle.daemon.proofs.files.load_own.Goals as goal
 
 pub returns-in-None-clause-loads : goal.returns-in-None-clause-loads
 returns-in-None-clause-loads g c =
-    loads_nothing c.args.managed.now _ _ _ _ (sym c.first.ensures.value ∙ ap option_copied c.in-None.is) (ap (map beginning_of) c.new.ensures.items) c.new-in-None.ensures.items
+    loads_nothing c.args.managed.now _ _ _ _ (sym c.first.ensures.value ∙ ap option_copied c.in-None.is)
+    (ap (map beginning_of) c.new.ensures.items) c.new-in-None.ensures.items

@@ -12,7 +12,8 @@ use Rattle.daemon.proofs.hooks.hook_turn.Goals as goal
 
 pub returns-clause-does : goal.returns-clause-does
 returns-clause-does g c = if_ok c.start_next.result
-    (λ x did. does_after (putting (map job_of c.args.jobs.items) c.args.hooks.now) (λ line. starting (next_order line) (after_next c.args.at line)) c.put_all.new.hooks c.start_next.new.hooks
+    (λ x did. does_after (putting (map job_of c.args.jobs.items) c.args.hooks.now)
+    (λ line. starting (next_order line) (after_next c.args.at line)) c.put_all.new.hooks c.start_next.new.hooks
     _ _ _ _ _ _ (c.in_ok-put_all.ensures.puts (g.W.Outside.seen c.args.outside.now)) did)
     c.start_next.ensures.does
 
@@ -26,6 +27,7 @@ returns-in_err-put_all-clause-begun g c =
 pub returns-clause-begun : goal.returns-clause-begun
 returns-clause-begun g c =
     err_so c.start_next.result
-    (λ begun. begun_later (putting (map job_of c.args.jobs.items) c.args.hooks.now) (λ line. starting (next_order line) (after_next c.args.at line)) c.put_all.new.hooks
+    (λ begun. begun_later (putting (map job_of c.args.jobs.items) c.args.hooks.now)
+    (λ line. starting (next_order line) (after_next c.args.at line)) c.put_all.new.hooks
     _ _ _ _ _ (c.in_ok-put_all.ensures.puts (g.W.Outside.seen c.args.outside.now)) begun)
     c.start_next.ensures.begun

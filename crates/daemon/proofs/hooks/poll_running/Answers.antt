@@ -21,7 +21,8 @@ pub returns-then-is_abandon-clause-does : goal.returns-then-is_abandon-clause-do
 returns-then-is_abandon-clause-does g c =
     let order : Order = order_of c.polled-order.result in
     if_ok c.abandon.result
-    (λ x did. polled_gone c.args.hooks.now c.polled-order.new.s c.args.number c.args.at c.in_ok-answer.answer order x _ _ _ _ _ _ c.requires.number c.in_ok-answer.ensures.does
+    (λ x did. polled_gone c.args.hooks.now c.polled-order.new.s c.args.number c.args.at c.in_ok-answer.answer order x _ _ _ _ _ _ c.requires.number
+    c.in_ok-answer.ensures.does
     (c.polled-order.ensures.order ∙ ap (λ a. poll_order a c.args.at c.args.hooks.now.child) c.heard.ensures)
     (abandons_so order (sym c.is_abandon.ensures ∙ c.if-is_abandon.true))
     (c.polled-order.ensures.child ∙ ap (λ a. after_poll a c.args.at c.args.hooks.now) c.heard.ensures) did)

@@ -9,7 +9,9 @@ use Rattle.daemon.proofs.hooks.put_all.Goals as goal
 pub loop-job-init : goal.loop-job-init
 loop-job-init c = record {
   so_far = λ seen next text did.
-      subst (λ (jobs : List HookJob). Does (putting (map job_of jobs) c.args.hooks.now) next seen seen c.args.text.now.items text) c.into_iter-job-iterator.ensures.into_iter_gives.0 did;
+      subst
+      (λ (jobs : List HookJob). Does (putting (map job_of jobs) c.args.hooks.now) next seen seen c.args.text.now.items text)
+      c.into_iter-job-iterator.ensures.into_iter_gives.0 did;
   child = refl;
 }
 
@@ -24,5 +26,6 @@ loop-job-preserved c = record {
 
 pub returns-clause-puts : goal.returns-clause-puts
 returns-clause-puts c seen =
-    c.loop-job.invariant.so_far seen c.loop-job.hooks c.loop-job.text.items (putting_none job_of c.loop-job.job-iterator.rest.items c.loop-job.job-iterator.rest.len c.loop-job.hooks seen _
+    c.loop-job.invariant.so_far seen c.loop-job.hooks c.loop-job.text.items
+    (putting_none job_of c.loop-job.job-iterator.rest.items c.loop-job.job-iterator.rest.len c.loop-job.hooks seen _
     c.loop-job.job-iterator.rest.ok.0 c.in-None.ensures.steps.0)

@@ -6,11 +6,13 @@ use Rattle.daemon.proofs.Parts.{if_ok}
 use Rattle.daemon.proofs.hooks.put_named.Goals as goal
 
 pub returns-in-Ok-clause-puts : goal.returns-in-Ok-clause-puts
-returns-in-Ok-clause-puts c = puts_taken (job_of c.args.job) c.args.hooks.now c.put.new.s _ c.put.result c.args.text.now.items c.put.ensures.answer c.in-Ok.is c.put.ensures.line
+returns-in-Ok-clause-puts c =
+    puts_taken (job_of c.args.job) c.args.hooks.now c.put.new.s _ c.put.result c.args.text.now.items c.put.ensures.answer c.in-Ok.is c.put.ensures.line
 
 pub returns-in-Err-clause-puts : goal.returns-in-Err-clause-puts
 returns-in-Err-clause-puts c = if_ok c.say.result
-    (λ x prints. puts_dropped (job_of c.args.job) c.args.hooks.now c.put.new.s _ c.put.result _ _ _ c.put.ensures.answer c.in-Err.is c.put.ensures.line c.requires prints)
+    (λ x prints. puts_dropped
+    (job_of c.args.job) c.args.hooks.now c.put.new.s _ c.put.result _ _ _ c.put.ensures.answer c.in-Err.is c.put.ensures.line c.requires prints)
     c.say.ensures
 
 pub returns-in-Ok-clause-child : goal.returns-in-Ok-clause-child

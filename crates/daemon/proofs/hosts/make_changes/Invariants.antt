@@ -12,7 +12,8 @@ abbrev pub invariant-loop-one : goal.invariant-loop-one
 invariant-loop-one g l = record {
   -- what the rest does, and this before it, all do
   so_far : (known : List HostRow) (result : Option (List HostRow)) (new : Seen) (text : List ℕ)
-      → Does (changing (drop l.one-index l.changes) (known_in l.table (after_changes (take l.one-index l.changes) known))) result (g.W.Outside.seen l.outside) new l.text.items text
+      → Does (changing (drop l.one-index l.changes) (known_in l.table (after_changes (take l.one-index l.changes) known))) result
+      (g.W.Outside.seen l.outside) new l.text.items text
       → Does (changing l.changes (Some known)) result (g.W.Outside.seen l.fn.outside) new l.fn.text.items text;
   -- and so where it is cut off
   begun : (known : List HostRow) (new : Seen)

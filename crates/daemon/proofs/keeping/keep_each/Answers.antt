@@ -20,7 +20,8 @@ loop-file-init g c = record {
 
 pub keep_one-requires : goal.keep_one-requires
 keep_one-requires g c =
-    but_first (λ (file : KeptFile). may_differ file.keeps c.args.touched ≡ false → IsKept c.args.core.now.ifaces file) c.loop-file.files c.loop-file.file-index _
+    but_first
+    (λ (file : KeptFile). may_differ file.keeps c.args.touched ≡ false → IsKept c.args.core.now.ifaces file) c.loop-file.files c.loop-file.file-index _
     (in_bounds c.loop-file.files c.args.files.now c.loop-file.file-index c.loop-file.invariant.count c.loop-file-test.true) c.loop-file.invariant.later
 
 pub loop-file-preserved : goal.loop-file-preserved
@@ -30,22 +31,36 @@ loop-file-preserved g c =
     let lt : at.file-index < length files = in_bounds files c.args.files.now at.file-index at.invariant.count c.loop-file-test.true in
     record {
       so_far = λ rest new text more.
-          subst (λ (all : List KeptFile). Does (keeping c.args.core.now.ifaces c.args.files.now) all (g.W.Outside.seen c.args.outside.now) new c.args.text.now.items text) (front_more files at.file-index c.keep_one.new.file rest lt)
+          subst
+          (λ (all : List KeptFile). Does (keeping c.args.core.now.ifaces c.args.files.now) all
+          (g.W.Outside.seen c.args.outside.now) new c.args.text.now.items text)
+          (front_more files at.file-index c.keep_one.new.file rest lt)
           (at.invariant.so_far (c.keep_one.new.file ∷ rest) new text
           (keeping_more c.args.core.now.ifaces files at.file-index _ c.keep_one.new.file rest _ _ new _ _ text lt c.in_ok-keep_one.ensures.does more));
-      begun = λ new more. at.invariant.begun new (keeping_later c.args.core.now.ifaces files at.file-index _ c.keep_one.new.file _ _ new _ _ lt c.in_ok-keep_one.ensures.does more);
+      begun =
+          λ new more. at.invariant.begun new
+          (keeping_later c.args.core.now.ifaces files at.file-index _ c.keep_one.new.file _ _ new _ _ lt c.in_ok-keep_one.ensures.does more);
       count = length-set files at.file-index c.keep_one.new.file ∙ at.invariant.count;
-      kept = kept_more (IsKept c.args.core.now.ifaces) files at.file-index c.keep_one.new.file lt at.invariant.kept (kept_at c.args.core.now.ifaces files at.file-index _ c.keep_one.new.file _ _ _ _ c.in_ok-keep_one.ensures.does);
-      later = but_more (λ (file : KeptFile). may_differ file.keeps c.args.touched ≡ false → IsKept c.args.core.now.ifaces file) files at.file-index c.keep_one.new.file lt at.invariant.later;
+      kept =
+          kept_more (IsKept c.args.core.now.ifaces) files at.file-index c.keep_one.new.file lt at.invariant.kept
+          (kept_at c.args.core.now.ifaces files at.file-index _ c.keep_one.new.file _ _ _ _ c.in_ok-keep_one.ensures.does);
+      later =
+          but_more
+          (λ (file : KeptFile). may_differ file.keeps c.args.touched ≡ false → IsKept c.args.core.now.ifaces file) files at.file-index c.keep_one.new.file
+          lt at.invariant.later;
       waiting = c.keep_one.ensures.waiting ∙ at.invariant.waiting;
     }
 
 pub returns-clause-does : goal.returns-clause-does
 returns-clause-does g c =
     let at = c.loop-file in
-    subst (λ (all : List KeptFile). Does (keeping c.args.core.now.ifaces c.args.files.now) all (g.W.Outside.seen c.args.outside.now) (g.W.Outside.seen at.outside) c.args.text.now.items at.text.items)
+    subst
+    (λ (all : List KeptFile). Does (keeping c.args.core.now.ifaces c.args.files.now) all (g.W.Outside.seen c.args.outside.now)
+    (g.W.Outside.seen at.outside) c.args.text.now.items at.text.items)
     (all_taken at.files at.file-index (out_of_bounds at.files c.args.files.now at.file-index at.invariant.count c.loop-file-test.false))
-    (at.invariant.so_far _ _ _ (keeping_end c.args.core.now.ifaces at.files at.file-index _ _ (out_of_bounds at.files c.args.files.now at.file-index at.invariant.count c.loop-file-test.false)))
+    (at.invariant.so_far _ _ _
+    (keeping_end c.args.core.now.ifaces at.files at.file-index _ _
+    (out_of_bounds at.files c.args.files.now at.file-index at.invariant.count c.loop-file-test.false)))
 
 pub returns-clause-kept : goal.returns-clause-kept
 returns-clause-kept g c =
@@ -55,4 +70,7 @@ returns-clause-kept g c =
 pub returns-in_err-keep_one-clause-begun : goal.returns-in_err-keep_one-clause-begun
 returns-in_err-keep_one-clause-begun g c =
     let at = c.loop-file in
-    on_err c.from_residual.result (at.invariant.begun _ (keeping_begun c.args.core.now.ifaces at.files at.file-index _ _ _ (in_bounds at.files c.args.files.now at.file-index at.invariant.count c.loop-file-test.true) c.in_err-keep_one.ensures.begun))
+    on_err c.from_residual.result
+    (at.invariant.begun _
+    (keeping_begun c.args.core.now.ifaces at.files at.file-index _ _ _
+    (in_bounds at.files c.args.files.now at.file-index at.invariant.count c.loop-file-test.true) c.in_err-keep_one.ensures.begun))

@@ -19,8 +19,12 @@ returns-in-None-clause-does g c = cleared_unlisted (names_of c.in_ok-list.field-
 
 pub returns-in-Some-clause-does : goal.returns-in-Some-clause-does
 returns-in-Some-clause-does g c = if_ok c.remove_all.result
-    (λ x did. cleared (names_of c.in_ok-list.field-0) (map string_bytes c.in-Some.names.items) x _ _ _ _ _ _ (ap names_of c.in-Some.is) c.in_ok-list.ensures.does
-    (subst (λ (names : List (String Global)). Does (clearing_listed (Some (map string_bytes names))) x (g.W.Outside.seen c.list.new.outside) (g.W.Outside.seen c.remove_all.new.outside) c.list.new.text.items c.remove_all.new.text.items) c.deref.ensures.value did))
+    (λ x did. cleared (names_of c.in_ok-list.field-0) (map string_bytes c.in-Some.names.items) x _ _ _ _ _ _
+    (ap names_of c.in-Some.is) c.in_ok-list.ensures.does
+    (subst
+    (λ (names : List (String Global)). Does (clearing_listed (Some (map string_bytes names))) x (g.W.Outside.seen c.list.new.outside)
+    (g.W.Outside.seen c.remove_all.new.outside) c.list.new.text.items c.remove_all.new.text.items)
+    c.deref.ensures.value did))
     c.remove_all.ensures.does
 
 pub returns-in_err-list-clause-begun : goal.returns-in_err-list-clause-begun
@@ -30,6 +34,10 @@ returns-in_err-list-clause-begun g c =
 pub returns-in-Some-clause-begun : goal.returns-in-Some-clause-begun
 returns-in-Some-clause-begun g c =
     err_so c.remove_all.result
-    (λ begun. cleared_later (names_of c.in_ok-list.field-0) (map string_bytes c.in-Some.names.items) _ _ _ _ _ (ap names_of c.in-Some.is) c.in_ok-list.ensures.does
-    (subst (λ (names : List (String Global)). HasBegun (clearing_listed (Some (map string_bytes names))) (g.W.Outside.seen c.list.new.outside) (g.W.Outside.seen c.remove_all.new.outside)) c.deref.ensures.value begun))
+    (λ begun. cleared_later (names_of c.in_ok-list.field-0) (map string_bytes c.in-Some.names.items) _ _ _ _ _
+    (ap names_of c.in-Some.is) c.in_ok-list.ensures.does
+    (subst
+    (λ (names : List (String Global)). HasBegun (clearing_listed (Some (map string_bytes names))) (g.W.Outside.seen c.list.new.outside)
+    (g.W.Outside.seen c.remove_all.new.outside))
+    c.deref.ensures.value begun))
     c.remove_all.ensures.begun

@@ -7,7 +7,8 @@ use Rattle.daemon.proofs.serving.take_turns.Given as goal
 
 abbrev pub invariant-wakes : goal.invariant-wakes
 invariant-wakes g l = record {
-  turns : TakesTurns l.managed (life_of l.fn.life) (g.W.Outside.seen l.fn.outside) (g.O.Sink.written l.fn.out) (life_of l.life) (g.W.Outside.seen l.outside) (g.O.Sink.written l.out) l.counter;
+  turns : TakesTurns l.managed (life_of l.fn.life) (g.W.Outside.seen l.fn.outside) (g.O.Sink.written l.fn.out) (life_of l.life) (g.W.Outside.seen l.outside)
+      (g.O.Sink.written l.out) l.counter;
   orderly : IsOrderly l.life;
   child : KnowsChild l.life.hooks (g.W.Outside.seen l.outside);
   going : is_over (life_of l.life) ≡ false;

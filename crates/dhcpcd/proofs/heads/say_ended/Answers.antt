@@ -12,4 +12,6 @@ pub lines-smaller : goal.lines-smaller
 lines-smaller c = rest_smaller c.lines.rest.now c.in-Some.line.now c.in-Some.after.now (sym c.in-Some.ensures)
 
 pub lines-preserved : goal.lines-preserved
-lines-preserved c = printed_more _ _ _ c.args.conf.now c.lines.rest.now c.in-Some.line.now c.in-Some.after.now (sym c.in-Some.ensures) c.lines.invariant c.in_ok-say-in-Some.ensures
+lines-preserved c =
+    printed_more _ _ _ c.args.conf.now c.lines.rest.now c.in-Some.line.now c.in-Some.after.now
+    (sym c.in-Some.ensures) c.lines.invariant c.in_ok-say-in-Some.ensures

@@ -18,7 +18,16 @@ returns-in_err-n-clause-reads g c =
     c.pieces.invariant.read
     (subst (λ n. CountsTaken n (g.I.Source.taken c.args.input.now) (g.I.Source.taken c.pieces.input)) so_many c.pieces.invariant.counted)
     c.in_err-n.ensures.taken
-    (omega (arith, all.0, room, piece, c.min-room.ensures, c.len-in-pieces.ensures, c.pieces.invariant.length, length-take c.min-room.result c.deref_mut.result.now))
+    (omega (
+      arith,
+      all.0,
+      room,
+      piece,
+      c.min-room.ensures,
+      c.len-in-pieces.ensures,
+      c.pieces.invariant.length,
+      length-take c.min-room.result c.deref_mut.result.now,
+    ))
     (omega (arith, all.0, c.pieces.invariant.reads)) c.in_err-n.ensures.reads
 
 pub returns-then-n-eq0-clause-reads : goal.returns-then-n-eq0-clause-reads
@@ -30,8 +39,10 @@ returns-then-n-eq0-clause-reads g c =
     within_read (input_told (g.I.Source.left c.args.input.now) (g.I.Source.taken c.args.input.now) (g.I.Source.reads c.args.input.now))
     (input_told (g.I.Source.left c.read_some.new.input) (g.I.Source.taken c.read_some.new.input) (g.I.Source.reads c.read_some.new.input))
     c.read_some.new.all.items
-    (read_more (g.I.Source.left c.args.input.now) (g.I.Source.left c.pieces.input) (g.I.Source.left c.read_some.new.input) c.pieces.all.items c.read_some.new.all.items c.in_ok-n.n c.pieces.invariant.read c.in_ok-n.ensures.moved)
+    (read_more (g.I.Source.left c.args.input.now) (g.I.Source.left c.pieces.input)
+    (g.I.Source.left c.read_some.new.input) c.pieces.all.items c.read_some.new.all.items c.in_ok-n.n c.pieces.invariant.read c.in_ok-n.ensures.moved)
     (subst (λ n. CountsTaken n (g.I.Source.taken c.args.input.now) (g.I.Source.taken c.read_some.new.input)) so_many
-    (counts_more (g.I.Source.taken c.args.input.now) (g.I.Source.taken c.pieces.input) (g.I.Source.taken c.read_some.new.input) (vec_len c.pieces.all) c.in_ok-n.n c.pieces.invariant.counted c.in_ok-n.ensures.counted))
+    (counts_more (g.I.Source.taken c.args.input.now) (g.I.Source.taken c.pieces.input) (g.I.Source.taken c.read_some.new.input)
+    (vec_len c.pieces.all) c.in_ok-n.n c.pieces.invariant.counted c.in_ok-n.ensures.counted))
     (omega (arith, after.0, count, c.if-n-eq0.true, c.pieces.invariant.length))
     (omega (arith, after.0, count, c.pieces.invariant.reads, c.in_ok-n.ensures.reads))

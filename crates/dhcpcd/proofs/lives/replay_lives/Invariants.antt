@@ -7,7 +7,8 @@ use Rattle.dhcpcd.proofs.lives.replay_lives.Given as goal
 
 abbrev pub invariant-lives : goal.invariant-lives
 invariant-lives g l = record {
-  so_far : LivedSoFar l.fn.managed l.fn.script.ifaces.items (failing_in l.fn.script.fails.items) (at_first l.fn.script.rows.items (map content.file_of l.fn.script.files.items) l.fn.script.polls.items)
+  so_far : LivedSoFar l.fn.managed l.fn.script.ifaces.items (failing_in l.fn.script.fails.items)
+      (at_first l.fn.script.rows.items (map content.file_of l.fn.script.files.items) l.fn.script.polls.items)
       l.yielded l.between (g.O.Sink.written l.fn.out) (g.O.Sink.written l.out);
   childless : l.between.hooks.running ≡ false;
   stands : l.fn.script.lives.items ≡ l.yielded ++ l.life-iterator.rest.items;

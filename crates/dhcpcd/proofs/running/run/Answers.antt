@@ -22,7 +22,8 @@ returns-in-Ok-Some-Import-clause-imports g c =
     let words : List (List ℕ) = map string_bytes c.args.words.now in
     let asked : AsksImport words c.in-Ok-Some-Import.on.name c.in-Ok-Some-Import.on.mac = search rules in
     λ name mac asks. subst
-    (λ (on : Import). IsImportAnswer (spec_of on.name on.mac) c.import_capture.result (g.I.Source.left c.args.input.now) (g.O.Sink.written c.args.out.now) (g.O.Sink.written c.import_capture.new.out))
+    (λ (on : Import). IsImportAnswer (spec_of on.name on.mac) c.import_capture.result (g.I.Source.left c.args.input.now) (g.O.Sink.written c.args.out.now)
+    (g.O.Sink.written c.import_capture.new.out))
     (import_is_one words c.in-Ok-Some-Import.on name mac asked asks) c.import_capture.ensures.answer
 
 pub returns-in-Ok-Some-Import-clause-import_complete : goal.returns-in-Ok-Some-Import-clause-import_complete

@@ -17,6 +17,8 @@ returns-in_err-conf-clause-bad c =
 pub returns-clause-found : goal.returns-clause-found
 returns-clause-found c = record {
   script_is = refl;
-  configured = subst (λ text. IsConfOf text (Ok (configuration c.in_ok-conf.conf))) (c.deref.ensures.value ∙ text_of c.args.script c.requires.lines) c.in_ok-conf.ensures.found;
+  configured =
+      subst (λ text. IsConfOf text (Ok (configuration c.in_ok-conf.conf)))
+      (c.deref.ensures.value ∙ text_of c.args.script c.requires.lines) c.in_ok-conf.ensures.found;
   managed = c.in_ok-managed.ensures ∙ ap (managed_of (configuration c.in_ok-conf.conf)) c.deref-2.ensures.value;
 }

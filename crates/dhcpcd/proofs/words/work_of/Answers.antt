@@ -12,8 +12,10 @@ returns-in-None-clause-asked c =
     let unread : c.in_ok-interfaces.field-0 ≡ None = search rules in
     let unmade : c.make_rounds.result ≡ None = search rules in
     let unimported : c.imported_on.result ≡ None = search rules in
-    none_asked words (λ asks. true_false (sym (c.is_alone.ensures.no asks) ∙ c.if-is_alone.false)) (λ asks. true_false (sym (c.is_alone-2.ensures.no asks) ∙ c.if-is_alone-2.false))
-    (λ asks. true_false (sym (c.is_alone-3.ensures.no asks) ∙ c.if-is_alone-3.false)) (λ asks. true_false (sym (c.is_alone-4.ensures.no asks) ∙ c.if-is_alone-4.false))
+    none_asked words (λ asks. true_false (sym (c.is_alone.ensures.no asks) ∙ c.if-is_alone.false))
+    (λ asks. true_false (sym (c.is_alone-2.ensures.no asks) ∙ c.if-is_alone-2.false))
+    (λ asks. true_false (sym (c.is_alone-3.ensures.no asks) ∙ c.if-is_alone-3.false))
+    (λ asks. true_false (sym (c.is_alone-4.ensures.no asks) ∙ c.if-is_alone-4.false))
     (subst (IsMakeRead words) unmade c.make_rounds.ensures)
     (subst (IsImportRead words) unimported c.imported_on.ensures)
     (subst (IsLiveRead words) unread c.in_ok-interfaces.ensures.read)

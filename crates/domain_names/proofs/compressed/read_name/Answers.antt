@@ -12,7 +12,8 @@ returns-then-not-is_label c =
 
 pub returns-in-Err : goal.returns-in-Err
 returns-in-Err c =
-    let long : 253 < length (with_label c.pieces.name.items (take c.in-Label.len (drop (c.pieces.at + 1) c.args.value.now))) = rw (← c.label_at-label.ensures) c.in-Err.ensures.long in
+    let long : 253 < length (with_label c.pieces.name.items (take c.in-Label.len (drop (c.pieces.at + 1) c.args.value.now))) =
+    rw (← c.label_at-label.ensures) c.in-Err.ensures.long in
     refuses_long _ _ _ _ _ _ c.pieces.invariant c.in-Label.len c.in-Label.ensures.exact long
 
 pub pieces-preserved-in-Ok : goal.pieces-preserved-in-Ok

@@ -15,6 +15,7 @@ lines-preserved c = record {
   rows = rw c.in-Ok-true.ensures.keys (All-insert_key row_cmp _ IsRow _ c.lines.invariant.rows c.in-Some-row_on.ensures.1);
   ordered = c.insert.ensures.ordered;
   goes_on =
-      one_row _ c.lines.rest.now c.in-Some.others.now c.in-Some.line.now _ _ _ (split_sound 10 c.lines.rest.now c.in-Some.line.now c.in-Some.others.now (sym c.in-Some.ensures)).0
+      one_row _ c.lines.rest.now c.in-Some.others.now c.in-Some.line.now _ _ _
+      (split_sound 10 c.lines.rest.now c.in-Some.line.now c.in-Some.others.now (sym c.in-Some.ensures)).0
       c.in-Some-row_on.ensures.0 c.in-Ok-true.ensures.keys c.lines.invariant.goes_on;
 }

@@ -16,7 +16,9 @@ loop-row-preserved c =
         in_order = λ _. w.in_ok-_is_new.ensures.ordered;
       })
       | else-not-contains w ↦ rw w.set-is (record {
-        has = λ q. left_out c.args.others.now.keys c.args.rows.now c.loop-row.row-index _ q _ _ c.loop-row-test.true (i.has q) (sym c.contains.ensures ∙ w.if-not-contains.false);
+        has =
+            λ q. left_out c.args.others.now.keys c.args.rows.now c.loop-row.row-index _ q _ _ c.loop-row-test.true (i.has q)
+            (sym c.contains.ensures ∙ w.if-not-contains.false);
         in_order = i.in_order;
       })
     ]

@@ -22,6 +22,7 @@ loop-row-preserved g c =
 pub returns-clause-adds : goal.returns-clause-adds
 returns-clause-adds g c = record {
   has = λ q. c.loop-row.invariant.has q
-      ∙ ap (λ (rows : List HostRow). has_row c.args.heads.now.items q || stands_for rows (rows_in c.args.brought.now) q) (take_all c.loop-row.row-index c.args.rows.now c.loop-row-test.false);
+      ∙ ap (λ (rows : List HostRow). has_row c.args.heads.now.items q || stands_for rows (rows_in c.args.brought.now) q)
+      (take_all c.loop-row.row-index c.args.rows.now c.loop-row-test.false);
   in_order = c.loop-row.invariant.in_order;
 }

@@ -18,16 +18,20 @@ pub returns-then-is_eq-clause-stands : goal.returns-then-is_eq-clause-stands
 returns-then-is_eq-clause-stands g c =
     let k : Bringing = c.in-Some.first.now in
     let first : IsFirstFrom bringing_cmp c.args.brought.now (record { row = target_of c.args.row; place = 0 }) k =
-    subst (λ (t : HostRow). IsFirstFrom bringing_cmp c.args.brought.now (record { row = t; place = 0 }) k) c.target-target_row.ensures c.in-Some.ensures.first in
+    subst
+    (λ (t : HostRow). IsFirstFrom bringing_cmp c.args.brought.now (record { row = t; place = 0 }) k) c.target-target_row.ensures c.in-Some.ensures.first in
     first_stands c.args.brought.now c.args.row k first.from first.least first.there
     (ap (λ (t : HostRow). is_eq (row_cmp t (target_of c.args.row))) (sym c.target.ensures)
-    ∙ ap (λ (t : HostRow). is_eq (row_cmp c.target.result t)) (sym c.target-target_row.ensures) ∙ ap is_eq (sym c.compare-order.ensures.order) ∙ sym c.is_eq.ensures ∙ c.if-is_eq.true)
+    ∙ ap (λ (t : HostRow). is_eq (row_cmp c.target.result t)) (sym c.target-target_row.ensures) ∙ ap is_eq (sym c.compare-order.ensures.order)
+    ∙ sym c.is_eq.ensures ∙ c.if-is_eq.true)
 
 pub returns-else-is_eq-clause-stands : goal.returns-else-is_eq-clause-stands
 returns-else-is_eq-clause-stands g c =
     let k : Bringing = c.in-Some.first.now in
     let first : IsFirstFrom bringing_cmp c.args.brought.now (record { row = target_of c.args.row; place = 0 }) k =
-    subst (λ (t : HostRow). IsFirstFrom bringing_cmp c.args.brought.now (record { row = t; place = 0 }) k) c.target-target_row.ensures c.in-Some.ensures.first in
+    subst
+    (λ (t : HostRow). IsFirstFrom bringing_cmp c.args.brought.now (record { row = t; place = 0 }) k) c.target-target_row.ensures c.in-Some.ensures.first in
     other_stands c.args.brought.now c.args.row k first.from first.least
     (ap (λ (t : HostRow). is_eq (row_cmp t (target_of c.args.row))) (sym c.target.ensures)
-    ∙ ap (λ (t : HostRow). is_eq (row_cmp c.target.result t)) (sym c.target-target_row.ensures) ∙ ap is_eq (sym c.compare-order.ensures.order) ∙ sym c.is_eq.ensures ∙ c.if-is_eq.false)
+    ∙ ap (λ (t : HostRow). is_eq (row_cmp c.target.result t)) (sym c.target-target_row.ensures) ∙ ap is_eq (sym c.compare-order.ensures.order)
+    ∙ sym c.is_eq.ensures ∙ c.if-is_eq.false)

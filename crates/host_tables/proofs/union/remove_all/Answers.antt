@@ -20,6 +20,9 @@ loop-row-preserved g c =
 
 pub returns-clause-removes : goal.returns-clause-removes
 returns-clause-removes g c = record {
-  has = λ q. c.loop-row.invariant.has q ∙ ap (λ (rows : List HostRow). has_row c.args.all.now.items q && not (has_row rows q)) (take_all c.loop-row.row-index c.args.rows.now c.loop-row-test.false);
+  has =
+      λ q. c.loop-row.invariant.has q
+      ∙ ap (λ (rows : List HostRow). has_row c.args.all.now.items q && not (has_row rows q))
+      (take_all c.loop-row.row-index c.args.rows.now c.loop-row-test.false);
   in_order = c.loop-row.invariant.in_order;
 }

@@ -19,9 +19,12 @@ returns c =
     let out : OutContent = out_content c.in_ok-out.out in
     let step : IfaceStep = dhcp4_step c.args.at old (carrier_step Up c.args.at c.args.salt old.dhcp4) in
     let is : IsStep4 (carrier_step Up c.args.at c.args.salt old.dhcp4) old.dhcp4 c.carrier4.new.c out =
-    subst (λ (at : ℕ). IsStep4 (carrier_step Up at c.args.salt old.dhcp4) old.dhcp4 c.carrier4.new.c out) (as_told c.args.at c.requires.at) c.in_ok-out.ensures.step in
+    subst (λ (at : ℕ). IsStep4 (carrier_step Up at c.args.salt old.dhcp4) old.dhcp4 c.carrier4.new.c out)
+    (as_told c.args.at c.requires.at) c.in_ok-out.ensures.step in
     on_ok_weaker c.follow.result
-    (λ (follows : Follows c.args.at c.holds_lease-held.result out (record old { dhcp4 = c.carrier4.new.c }) c.follow.new.iface (asked_in c.args.outs.now) (asked_in c.follow.new.outs)).
+    (λ
+    (follows : Follows c.args.at c.holds_lease-held.result out (record old { dhcp4 = c.carrier4.new.c }) c.follow.new.iface (asked_in c.args.outs.now)
+    (asked_in c.follow.new.outs)).
     goes_where (runs_dhcp4 old.managed.conf) c.runs_dhcp4.result step (silent old) c.follow.new.iface (asked_in c.args.outs.now) (asked_in c.follow.new.outs)
     c.runs_dhcp4.ensures c.if-not-runs_dhcp4.false
     (goes_dhcp4 c.args.at c.holds_lease-held.result old c.follow.new.iface (carrier_step Up c.args.at c.args.salt old.dhcp4) old.dhcp4 c.carrier4.new.c out

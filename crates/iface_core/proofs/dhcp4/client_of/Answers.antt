@@ -7,7 +7,8 @@ use Rattle.iface_core.proofs.dhcp4.client_of.Goals as goal
 
 pub client4_new-requires-clause-ask : goal.client4_new-requires-clause-ask
 client4_new-requires-clause-ask c =
-    subst AskFits (sym (ap (λ (s : SettingsContent). s.ask) c.in_ok-set.ensures)) (ask_fits c.args.duid.now.bytes.items c.args.managed.now c.requires.duid c.requires.managed)
+    subst AskFits (sym (ap (λ (s : SettingsContent). s.ask) c.in_ok-set.ensures))
+    (ask_fits c.args.duid.now.bytes.items c.args.managed.now c.requires.duid c.requires.managed)
 
 pub client4_new-requires-clause-name : goal.client4_new-requires-clause-name
 client4_new-requires-clause-name c = subst FitsName (sym (ap (λ (s : SettingsContent). s.site.iface.name) c.in_ok-set.ensures)) c.requires.managed.name

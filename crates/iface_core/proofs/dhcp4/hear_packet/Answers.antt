@@ -13,7 +13,8 @@ returns c =
     let old : Iface = c.args.iface.now in
     let out : OutContent = out_content c.in_ok-out.out in
     let is : IsStep4 (arp_step c.args.own.now c.args.at c.args.salt c.args.arp.now old.dhcp4) old.dhcp4 c.heard_arp4.new.c out =
-    subst (λ (at : ℕ). IsStep4 (arp_step c.args.own.now at c.args.salt c.args.arp.now old.dhcp4) old.dhcp4 c.heard_arp4.new.c out) (as_told c.args.at c.requires.at)
+    subst (λ (at : ℕ). IsStep4 (arp_step c.args.own.now at c.args.salt c.args.arp.now old.dhcp4) old.dhcp4 c.heard_arp4.new.c out)
+    (as_told c.args.at c.requires.at)
     c.in_ok-out.ensures.step in
     on_ok_weaker c.follow.result
     (goes_dhcp4 c.args.at c.holds_lease-held.result old c.follow.new.iface (arp_step c.args.own.now c.args.at c.args.salt c.args.arp.now old.dhcp4) old.dhcp4

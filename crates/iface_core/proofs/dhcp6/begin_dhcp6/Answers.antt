@@ -17,7 +17,8 @@ returns c =
     let step : IfaceStep = dhcp6_step old (carrier_turned Up c.args.at c.args.salt old.dhcp6) in
     on_ok_weaker c.follow.result
     (λ (follows : Follows6 (out_content c.in_ok-out.out) (with_client old c.carrier6.new.c) (asked_in c.args.outs.now) (asked_in c.follow.new.outs)).
-    goes_where (runs_dhcp6 old.managed.conf) c.runs_dhcp6.result step (silent old) (with_client old c.carrier6.new.c) (asked_in c.args.outs.now) (asked_in c.follow.new.outs)
+    goes_where (runs_dhcp6 old.managed.conf) c.runs_dhcp6.result step (silent old) (with_client old c.carrier6.new.c) (asked_in c.args.outs.now)
+    (asked_in c.follow.new.outs)
     c.runs_dhcp6.ensures c.if-not-runs_dhcp6.false
     (goes_carrier6 old c.carrier6.new.c c.args.at c.args.salt (asked_in c.args.outs.now) (asked_in c.follow.new.outs) (as_told c.args.at c.requires.at)
     Up (out_content c.in_ok-out.out) c.in_ok-out.ensures follows))

@@ -8,6 +8,7 @@ use Rattle.iface_core.proofs.dhcp6.contest.Goals as goal
 pub returns : goal.returns
 returns c =
     on_ok_weaker c.follow.result
-    (goes_contested6 c.args.iface.now c.duplicate6.new.c c.args.at c.args.salt (asked_in c.args.outs.now) (asked_in c.follow.new.outs) (as_told c.args.at c.requires.at) c.args.addr
+    (goes_contested6 c.args.iface.now c.duplicate6.new.c c.args.at c.args.salt (asked_in c.args.outs.now) (asked_in c.follow.new.outs)
+    (as_told c.args.at c.requires.at) c.args.addr
     (out_content c.in_ok-out.out) c.in_ok-out.ensures)
     c.follow.ensures

@@ -9,6 +9,7 @@ use Rattle.iface_core.proofs.dhcp6.drop_dhcp6.Goals as goal
 pub returns : goal.returns
 returns c =
     on_ok_weaker c.follow.result
-    (goes_carrier6 c.args.iface.now c.carrier6.new.c c.args.at c.args.salt (asked_in c.args.outs.now) (asked_in c.follow.new.outs) (as_told c.args.at c.requires.at) Down
+    (goes_carrier6 c.args.iface.now c.carrier6.new.c c.args.at c.args.salt (asked_in c.args.outs.now) (asked_in c.follow.new.outs)
+    (as_told c.args.at c.requires.at) Down
     (out_content c.in_ok-out.out) c.in_ok-out.ensures)
     c.follow.ensures

@@ -8,6 +8,7 @@ use Rattle.iface_core.proofs.dhcp6.stop_dhcp6.Goals as goal
 pub returns : goal.returns
 returns c =
     on_ok_weaker c.follow.result
-    (goes_stop6 c.args.iface.now c.release6.new.c c.args.at c.args.salt (asked_in c.args.outs.now) (asked_in c.follow.new.outs) (as_told c.args.at c.requires.at)
+    (goes_stop6 c.args.iface.now c.release6.new.c c.args.at c.args.salt (asked_in c.args.outs.now) (asked_in c.follow.new.outs)
+    (as_told c.args.at c.requires.at)
     c.args.tell c.tell6_of.result (out_content c.in_ok-out.out) c.tell6_of.ensures c.in_ok-out.ensures)
     c.follow.ensures

@@ -21,5 +21,7 @@ returns c =
 pub begin_dhcp6-requires-clause-fits : goal.begin_dhcp6-requires-clause-fits
 begin_dhcp6-requires-clause-fits c =
     let first : IfaceStep = begin_dhcp4 c.args.at c.args.salt c.args.iface.now in
-    fits_about c.args.iface.now first (begin_local c.args.at) c.begin_dhcp4.new.iface c.begin_local.new.iface (asked_in c.args.outs.now) (asked_in c.begin_dhcp4.new.outs)
-    (begin_same c.args.at c.args.salt c.args.iface.now) (begin_local_same c.args.at first.iface) c.in_ok-begin_dhcp4.ensures c.begin_local.ensures c.requires.fits
+    fits_about c.args.iface.now first (begin_local c.args.at) c.begin_dhcp4.new.iface c.begin_local.new.iface (asked_in c.args.outs.now)
+    (asked_in c.begin_dhcp4.new.outs)
+    (begin_same c.args.at c.args.salt c.args.iface.now)
+    (begin_local_same c.args.at first.iface) c.in_ok-begin_dhcp4.ensures c.begin_local.ensures c.requires.fits

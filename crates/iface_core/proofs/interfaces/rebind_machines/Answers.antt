@@ -21,5 +21,7 @@ returns c =
 pub rebind_dhcp6-requires-clause-fits : goal.rebind_dhcp6-requires-clause-fits
 rebind_dhcp6-requires-clause-fits c =
     let first : IfaceStep = rebind_dhcp4 c.args.at c.args.salt c.args.iface.now in
-    fits_about c.args.iface.now first (arms c.args.at) c.rebind_dhcp4.new.iface c.arm_unless_held.new.iface (asked_in c.args.outs.now) (asked_in c.rebind_dhcp4.new.outs)
-    (rebind_same c.args.at c.args.salt c.args.iface.now) (arms_same c.args.at first.iface) c.in_ok-rebind_dhcp4.ensures c.arm_unless_held.ensures c.requires.fits
+    fits_about c.args.iface.now first (arms c.args.at) c.rebind_dhcp4.new.iface c.arm_unless_held.new.iface (asked_in c.args.outs.now)
+    (asked_in c.rebind_dhcp4.new.outs)
+    (rebind_same c.args.at c.args.salt c.args.iface.now)
+    (arms_same c.args.at first.iface) c.in_ok-rebind_dhcp4.ensures c.arm_unless_held.ensures c.requires.fits

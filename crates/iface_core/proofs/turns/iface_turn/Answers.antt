@@ -20,7 +20,8 @@ returns c =
     subst (λ (iface : Iface). Goes (ticked turn.at turn.salt iface) c.tick_machines.new.iface (asked_in c.args.outs.now) (asked_in c.tick_machines.new.outs))
     c.restart.ensures c.in_ok-tick_machines.ensures in
     on_ok_weaker c.iface_input.result
-    (goes_then first input c.tick_machines.new.iface c.iface_input.new.iface (asked_in c.args.outs.now) (asked_in c.tick_machines.new.outs) (asked_in c.iface_input.new.outs)
+    (goes_then first input c.tick_machines.new.iface c.iface_input.new.iface (asked_in c.args.outs.now) (asked_in c.tick_machines.new.outs)
+    (asked_in c.iface_input.new.outs)
     (input_same c.args.own.now turn.at turn.salt turn.event turn.bytes first.iface) ticks)
     c.iface_input.ensures
 
@@ -33,7 +34,8 @@ tick_machines-requires-clause-fits c =
 pub iface_input-requires-clause-fits : goal.iface_input-requires-clause-fits
 iface_input-requires-clause-fits c =
     let turn : Turn = turn_of c.args.turn.now in
-    fits_after (ticked turn.at turn.salt c.restart.new.iface) c.restart.new.iface c.tick_machines.new.iface (asked_in c.args.outs.now) (asked_in c.tick_machines.new.outs)
+    fits_after (ticked turn.at turn.salt c.restart.new.iface) c.restart.new.iface c.tick_machines.new.iface (asked_in c.args.outs.now)
+    (asked_in c.tick_machines.new.outs)
     (ticked_same turn.at turn.salt c.restart.new.iface) c.in_ok-tick_machines.ensures
     (subst FitsManaged
     (sym (ap (λ (i : Iface). i.managed) c.restart.ensures ∙ (unsent_same turn.unsent turn.at turn.salt c.args.iface.now).managed)) c.requires.fits)

@@ -35,5 +35,6 @@ returns c =
     let said_is : c.said_as.result ≡ said_as (drop 42 frame) (message_instances (drop 42 frame)) c.in-Some-kind_in.kind =
     c.said_as.ensures ∙ (λ i. said_as (back i) (are i) c.in-Some-kind_in.kind) in
     let same : if_said (ask_among (view_instances c.in-Some.options)) frame (record { ends = c.ends_in.result; said = c.said_as.result }) ≡ client_sent frame =
-    (λ i. if_said (ask_among (are i)) frame (record { ends = c.ends_in.ensures i; said = said_is i })) ∙ sym (said_frames frame c.in-Some-kind_in.kind kind_is) in
+    (λ i. if_said (ask_among (are i)) frame (record { ends = c.ends_in.ensures i; said = said_is i }))
+    ∙ sym (said_frames frame c.in-Some-kind_in.kind kind_is) in
     subst (λ (x : Option Sent4). IfOk c.if_said.result (λ sent. sent ≡ x)) same c.if_said.ensures

@@ -33,4 +33,7 @@ returns-in_err-push-clause-begun g c =
     let at = c.loop-name in
     let one = c.in_ok-ok.ensures in
     let next : into_iter_items at.name-iterator ≡ c.in-Some.name ∷ into_iter_items c.next.new.self = c.in-Some.ensures.steps.0 in
-    if_err _ _ (begins_more _ _ at.removed.items (record { name = c.in-Some.name; ok = c.in_ok-ok.ok }) _ _ _ _ _ _ _ at.invariant.failing c.deref.ensures next at.invariant.names at.invariant.answered one.answered)
+    if_err _ _
+    (begins_more _ _ at.removed.items
+    (record { name = c.in-Some.name; ok = c.in_ok-ok.ok }) _ _ _ _ _ _ _ at.invariant.failing c.deref.ensures next at.invariant.names
+    at.invariant.answered one.answered)

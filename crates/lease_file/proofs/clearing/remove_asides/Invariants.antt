@@ -21,6 +21,7 @@ invariant-loop-name g l = record {
   fit : AllByRecursion (λ name. IsFileName (string_bytes name)) (into_iter_items l.name-iterator);
   calls : told_calls (g.S.Store.told l.store) ≡ with_calls (removal_calls l.removed.items) (told_calls (g.S.Store.told l.fn.store));
   taken : TakesFiles (g.S.Store.failing l.fn.store) l.removed.items (told_files (g.S.Store.told l.fn.store)) (told_files (g.S.Store.told l.store));
-  files : IsSome (g.S.Store.failing l.fn.store) → told_files (g.S.Store.told l.store) ≡ option_map (without l.removed.items) (told_files (g.S.Store.told l.fn.store));
+  files : IsSome (g.S.Store.failing l.fn.store)
+      → told_files (g.S.Store.told l.store) ≡ option_map (without l.removed.items) (told_files (g.S.Store.told l.fn.store));
   answered : Answered (g.S.Store.failing l.fn.store) (removal_calls l.removed.items) (g.S.Store.told l.fn.store) (g.S.Store.told l.store);
 }

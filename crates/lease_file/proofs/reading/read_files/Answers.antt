@@ -14,7 +14,12 @@ loop-name-preserved g c =
       failing = c.read_file.ensures.failing ∙ at.invariant.failing;
       cause = unread_more at.gots.items _ _ _ _ _ all at.invariant.cause at.invariant.later one.later one.cause;
       count = count_more at.gots.items _ _ _ all at.invariant.count;
-      quiet = λ quiet. (missing_more c.args.names.now at.name-index (record { ref_ptr = (0, 0); now = [] }) at.gots.items _ _ lt all (one.quiet (at.invariant.quiet quiet).1).0 (at.invariant.quiet quiet).0, (one.quiet (at.invariant.quiet quiet).1).1);
+      quiet =
+          λ quiet. (
+            missing_more c.args.names.now at.name-index (record { ref_ptr = (0, 0); now = [] }) at.gots.items _ _ lt all
+                (one.quiet (at.invariant.quiet quiet).1).0 (at.invariant.quiet quiet).0,
+            (one.quiet (at.invariant.quiet quiet).1).1,
+          );
       calls = calls_more c.args.names.now at.name-index _ at.gots.items _ _ _ _ _ lt at.invariant.count all at.invariant.calls told.0;
       files = told.1 ∙ at.invariant.files;
     }

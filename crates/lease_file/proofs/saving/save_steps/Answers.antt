@@ -6,13 +6,15 @@ use Rattle.lease_file.proofs.saving.save_steps.Goals as goal
 
 pub returns-in_err-sync-clause-calls : goal.returns-in_err-sync-clause-calls
 returns-in_err-sync-clause-calls g c =
-    stopped _ _ c.args.name.now c.args.bytes.now step.Sync (SyncedAside c.args.name.now) (WroteAside c.args.name.now c.args.bytes.now true ∷ []) _ _ _ _ c.in_err-sync.field-0.0
+    stopped _ _ c.args.name.now c.args.bytes.now step.Sync (SyncedAside c.args.name.now)
+    (WroteAside c.args.name.now c.args.bytes.now true ∷ []) _ _ _ _ c.in_err-sync.field-0.0
     (search rules) (record { of = tt; failed = refl; made = 1; front = refl; short = omega arith })
     c.in_ok-write.ensures.failing c.in_ok-write.ensures.step c.in_err-sync.ensures.step
 
 pub returns-in_err-rename-clause-calls : goal.returns-in_err-rename-clause-calls
 returns-in_err-rename-clause-calls g c =
-    stopped _ _ c.args.name.now c.args.bytes.now step.Rename (RenamedAside c.args.name.now) (WroteAside c.args.name.now c.args.bytes.now true ∷ SyncedAside c.args.name.now true ∷ [])
+    stopped _ _ c.args.name.now c.args.bytes.now step.Rename (RenamedAside c.args.name.now)
+    (WroteAside c.args.name.now c.args.bytes.now true ∷ SyncedAside c.args.name.now true ∷ [])
     _ _ _ _ c.in_err-rename.field-0.0 (search rules) (record { of = tt; failed = refl; made = 2; front = refl; short = omega arith })
     (c.in_ok-sync.ensures.failing ∙ c.in_ok-write.ensures.failing)
     (two_done _ _ _ _ _ _ _ c.in_ok-write.ensures.failing c.in_ok-write.ensures.step c.in_ok-sync.ensures.step) c.in_err-rename.ensures.step

@@ -6,4 +6,5 @@ abbrev pub invariant-loop-number : goal.invariant-loop-number
 invariant-loop-number g l = IsStrictlySortedBy (on (λ key. key.number) nat_cmp) l.keys.items
 
 abbrev pub invariant-loop-number-2 : goal.invariant-loop-number-2
-invariant-loop-number-2 g l = IsStrictlySortedBy (on (λ key. key.number) nat_cmp) l.keys.items × IsStrictlySortedBy (on (λ key. key.number) nat_cmp) l.others.items
+invariant-loop-number-2 g l =
+    IsStrictlySortedBy (on (λ key. key.number) nat_cmp) l.keys.items × IsStrictlySortedBy (on (λ key. key.number) nat_cmp) l.others.items

@@ -12,7 +12,8 @@ returns-then-not-is_numeral c =
 pub returns-in-Ok : goal.returns-in-Ok
 returns-in-Ok c =
     let numeral : is_numeral c.args.bytes.now ≡ true = search rules in
-    let parsed : ParsesUnsigned 64 10 c.args.bytes.now c.parse.result = subst (λ t. ParsesUnsigned 64 10 t c.parse.result) c.in-Ok.ensures.cases.0 c.parse.ensures.value.0 in
+    let parsed : ParsesUnsigned 64 10 c.args.bytes.now c.parse.result =
+    subst (λ t. ParsesUnsigned 64 10 t c.parse.result) c.in-Ok.ensures.cases.0 c.parse.ensures.value.0 in
     c.ok.ensures.value ∙ number_parsed c.args.bytes.now c.parse.result numeral parsed
 
 pub returns-in-Err : goal.returns-in-Err

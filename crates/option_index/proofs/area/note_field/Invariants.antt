@@ -6,7 +6,8 @@ use Rattle.option_index.proofs.area.note_field.Given as goal
 abbrev pub invariant-options : goal.invariant-options
 invariant-options l = record {
   within : l.at ≤ length l.area;
-  told : (all later : List Instance) → Knows l.areas all (instances_in l.area ++ later) l.initial.places → Knows l.areas all (instances_in (drop l.at l.area) ++ later) l.places;
+  told : (all later : List Instance) → Knows l.areas all (instances_in l.area ++ later) l.initial.places
+      → Knows l.areas all (instances_in (drop l.at l.area) ++ later) l.places;
 }
 
 abbrev pub decreases-options : goal.decreases-options

@@ -8,4 +8,5 @@ use Rattle.resolver_text.proofs.resolver_lines.add_servers.Goals as goal
 pub loop-server-preserved : goal.loop-server-preserved
 loop-server-preserved c =
     c.in_ok-add_server.ensures ∙ ap (λ t. string_bytes c.loop-server.text ++ ended (server_line t)) c.as_str.ensures.value
-    ∙ server_more (λ server. string_bytes server) c.args.servers.now c.loop-server.server-index c.server-item.result c.loop-server-test.true c.server-item.is (string_bytes c.args.text.now) (string_bytes c.loop-server.text) c.loop-server.invariant
+    ∙ server_more (λ server. string_bytes server) c.args.servers.now c.loop-server.server-index c.server-item.result c.loop-server-test.true c.server-item.is
+    (string_bytes c.args.text.now) (string_bytes c.loop-server.text) c.loop-server.invariant

@@ -17,4 +17,5 @@ returns c =
     (c.in_ok-first_servers.ensures ∙ ap (λ ps. take 8 (unlike (flat_map part_servers (map (λ p. part_content p.now) ps)))) c.deref-3.ensures.value)
     (c.in_ok-add_search.ensures ∙ ap (λ t. t ++ lines_text (search_lines (map (λ name. name.now) c.deref-2.result.now))) c.new-text.ensures.bytes
     ∙ ap (λ ns. lines_text (search_lines (map (λ name. name.now) ns))) c.deref-2.ensures.value)
-    (c.in_ok-add_servers.ensures ∙ ap (λ ss. string_bytes c.add_search.new.text ++ lines_text (map server_line (map (λ server. string_bytes server) ss))) c.deref-4.ensures.value)
+    (c.in_ok-add_servers.ensures
+    ∙ ap (λ ss. string_bytes c.add_search.new.text ++ lines_text (map server_line (map (λ server. string_bytes server) ss))) c.deref-4.ensures.value)

@@ -7,7 +7,8 @@ use Rattle.resolver_text.proofs.texts.add_name.Goals.{else-not-is_among-via-then
 pub returns-in_ok-push : goal.returns-in_ok-push
 returns-in_ok-push c =
     name_anew (λ name. name.now) is_name c.args.limit c.args.names.now.items c.deref.result.now c.args.name.now c.requires c.deref.ensures.value
-    _ c.is_among.ensures c.if-not-is_among.true (sym (ap is_name c.as_bytes.ensures.value) ∙ sym c.is_name.ensures ∙ c.if-is_name.true) c.push.new.self.items _ c.in_ok-push.ensures.items refl
+    _ c.is_among.ensures c.if-not-is_among.true
+    (sym (ap is_name c.as_bytes.ensures.value) ∙ sym c.is_name.ensures ∙ c.if-is_name.true) c.push.new.self.items _ c.in_ok-push.ensures.items refl
 
 pub returns-else-not-is_among : goal.returns-else-not-is_among
 returns-else-not-is_among c =

@@ -19,8 +19,14 @@ loop-index-preserved c = elim c.if-is_up.branch [
 ]
 
 pub returns-then-some-clause-ok : goal.returns-then-some-clause-ok
-returns-then-some-clause-ok c = all_with_some c.args.up c.args.into.now.items c.loop-index.into.items c.loop-index.some c.loop-index.index c.if-some.true (omega arith) c.loop-index.invariant
+returns-then-some-clause-ok c =
+    all_with_some c.args.up c.args.into.now.items c.loop-index.into.items c.loop-index.some c.loop-index.index c.if-some.true
+    (omega arith) c.loop-index.invariant
 
 pub returns-else-some-clause-ok : goal.returns-else-some-clause-ok
 returns-else-some-clause-ok c =
-    IfOk-weaker c.append_bytes.result _ _ (λ _ text. all_with_none c.args.up c.args.into.now.items c.loop-index.into.items c.append_bytes.new.into.items c.loop-index.some c.loop-index.index c.if-some.false (omega arith) text c.loop-index.invariant) c.append_bytes.ensures.ok
+    IfOk-weaker c.append_bytes.result _ _
+    (λ _ text. all_with_none c.args.up c.args.into.now.items c.loop-index.into.items c.append_bytes.new.into.items c.loop-index.some c.loop-index.index
+    c.if-some.false
+    (omega arith) text c.loop-index.invariant)
+    c.append_bytes.ensures.ok

@@ -19,7 +19,8 @@ pub go-requires : goal.go-requires
 go-requires c =
     let same : c.c.inside.state ≡ c.args.c.now.state = ap (λ (v : ClientContent). v.state) c.c.view_is in
     let sound : IsSound c.args.c.now = subst IsSound c.c.view_is c.c.invariant in
-    let at : IsMoment c.turn-turn.result.at = early c.turn-turn.result c.args.at c.clamp_moment.result c.args.salt c.args.c.now c.clamp_moment.ensures c.turn-turn.ensures in
+    let at : IsMoment c.turn-turn.result.at =
+    early c.turn-turn.result c.args.at c.clamp_moment.result c.args.salt c.args.c.now c.clamp_moment.ensures c.turn-turn.ensures in
     subst (λ (s : State4). IsSoundStep (kept_terms c.args.c.now) s c.match-carrier.step) same
     (elim c.match-carrier.branch [
       | in-Up w ↦

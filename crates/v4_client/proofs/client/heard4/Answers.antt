@@ -25,7 +25,8 @@ go-requires c =
     let sound : IsSound c.args.c.now = subst IsSound c.c.view_is c.c.invariant in
     let clamped : IsMoment c.clamp_moment.result = let told = c.clamp_moment.ensures in omega arith in
     let good : FitsAnswer c.in_ok-answer.answer =
-    rw c.in_ok-answer.ensures.answer (answer_fits c.args.c.now.settings (arrival_from c.args.from c.clamp_moment.result c.args.msg.now) c.args.c.now.state clamped sound.state) in
+    rw c.in_ok-answer.ensures.answer
+    (answer_fits c.args.c.now.settings (arrival_from c.args.from c.clamp_moment.result c.args.msg.now) c.args.c.now.state clamped sound.state) in
     let at : IsMoment c.turn.result.at =
     early c.turn.result c.args.at c.clamp_moment.result c.args.salt c.args.c.now c.clamp_moment.ensures c.turn.ensures in
     subst (λ (s : State4). IsSoundStep (kept_terms c.bring.new.self) s c.heard_row-step.result) same

@@ -12,7 +12,8 @@ go-requires c =
     let same : c.c.inside.state ≡ c.args.c.now.state = ap (λ (v : ClientContent). v.state) c.c.view_is in
     let sound : IsSound c.args.c.now = subst IsSound c.c.view_is c.c.invariant in
     let begin : FitsBegin (kept_terms c.args.c.now) = begin_fits c.args.c.now.kept sound.kept in
-    let at : IsMoment c.turn-turn.result.at = early c.turn-turn.result c.args.at c.clamp_moment.result c.args.salt c.args.c.now c.clamp_moment.ensures c.turn-turn.ensures in
+    let at : IsMoment c.turn-turn.result.at =
+    early c.turn-turn.result c.args.at c.clamp_moment.result c.args.salt c.args.c.now c.clamp_moment.ensures c.turn-turn.ensures in
     subst (λ (s : State4). IsSoundStep (kept_terms c.args.c.now) s c.rebind_row-step.result) same
     (rw (c.rebind_row-step.ensures, c.kept_terms.ensures.value)
     (rebind_sound (kept_terms c.args.c.now) c.turn-turn.result c.c.inside.state at begin c.c.invariant.state))

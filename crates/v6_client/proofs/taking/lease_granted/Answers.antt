@@ -15,7 +15,8 @@ use Rattle.v6_client.proofs.taking.lease_granted.Goals as goal
 pub returns-clause-fits : goal.returns-clause-fits
 returns-clause-fits c =
     let m : Meeting = meeting_shown c.args.meeting in
-    let saids : AllByRecursion (λ (ask : IaAsk). AllByRecursion (λ said. FitsItem ask.kind (item_from m.at said)) (saids_of (ia_for ask m.ias))) c.args.asks.now =
+    let saids : AllByRecursion
+    (λ (ask : IaAsk). AllByRecursion (λ said. FitsItem ask.kind (item_from m.at said)) (saids_of (ia_for ask m.ias))) c.args.asks.now =
     all_map (IsTimedFor m) (λ (ask : IaAsk). AllByRecursion (λ said. FitsItem ask.kind (item_from m.at said)) (saids_of (ia_for ask m.ias)))
     (λ ask timed. saids_fit ask m.at c.args.meeting.message.now.options.now c.requires.at timed) c.args.asks.now c.in_ok-granting.ensures.timed in
     record {

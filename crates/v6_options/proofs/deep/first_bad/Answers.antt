@@ -13,7 +13,9 @@ options-preserved c =
     let passed = one_passed _ _ _ _ len c.options.invariant.passed c.in-Whole.ensures.exact in
     record {
       passed = rw (← c.after_header-rest.ensures) at passed;
-      place = rw c.after_header-rest.ensures (omega (arith, room.0, c.options.invariant.place, length-drop len (drop 4 c.options.rest.now), length-drop 4 c.options.rest.now));
+      place =
+          rw c.after_header-rest.ensures
+          (omega (arith, room.0, c.options.invariant.place, length-drop len (drop 4 c.options.rest.now), length-drop 4 c.options.rest.now));
     }
 
 pub returns-in-End : goal.returns-in-End

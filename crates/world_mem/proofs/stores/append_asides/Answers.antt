@@ -5,7 +5,8 @@ use Rattle.world_mem.proofs.StoreSteps.{one_found, found_back}
 use Rattle.world_mem.proofs.stores.append_asides.Goals as goal
 
 pub returns-in_default-clause-unchanged : goal.returns-in_default-clause-unchanged
-returns-in_default-clause-unchanged c = rw (c.truncate.ensures.items, c.in_default.ensures.unchanged, c.len-before.ensures) (found_back _ _ _ _ _ c.args.names.now.ok.0 c.loop-name.invariant)
+returns-in_default-clause-unchanged c =
+    rw (c.truncate.ensures.items, c.in_default.ensures.unchanged, c.len-before.ensures) (found_back _ _ _ _ _ c.args.names.now.ok.0 c.loop-name.invariant)
 
 pub loop-name-preserved-in-Ok-1 : goal.loop-name-preserved-in-Ok-1
 loop-name-preserved-in-Ok-1 c =

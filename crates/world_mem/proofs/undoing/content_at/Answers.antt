@@ -17,7 +17,9 @@ returns-in-Some-Empties c =
 pub returns-in_ok-copy_bytes-in-Some-Restores-Some : goal.returns-in_ok-copy_bytes-in-Some-Restores-Some
 returns-in_ok-copy_bytes-in-Some-Restores-Some c =
     let reads = option_map (λ b. b.now) c.args.reads in
-    let found : Some (Restores (Some c.in-Some-Restores-Some.bytes)) ≡ lookup (is_at (λ k. name_cmp c.args.name.now (string_bytes k))) c.args.undos.now.entries = search rules in
+    let found : Some (Restores (Some c.in-Some-Restores-Some.bytes))
+    ≡ lookup (is_at (λ k. name_cmp c.args.name.now (string_bytes k))) c.args.undos.now.entries =
+    search rules in
     let copied : c.in_ok-copy_bytes-in-Some-Restores-Some.field-0.items ≡ c.in-Some-Restores-Some.bytes.items = search rules in
     ap (λ (b : List ℕ). Some b) copied ∙ ap (λ (o : Option Undone). content_or o reads) found ∙ undo_find c.args.name.now reads c.args.undos.now.entries
 

@@ -12,7 +12,8 @@ pub invariant_of-self-2 : goal.invariant_of-self-2
 invariant_of-self-2 g c =
     let places : List (List HostRow) = c.self.inside.places.items in
     let here : c.args.place < length places = subst (λ (all : List (List HostRow)). c.args.place < length all) (sym c.self.view_is) c.requires in
-    let before : c.as_slice-before.result.now ≡ get_or places c.args.place [] = c.as_slice-before.ensures.rows ∙ c.index.ensures ∙ get_or_default places c.args.place c.index.result.now [] here in (
+    let before : c.as_slice-before.result.now ≡ get_or places c.args.place [] =
+    c.as_slice-before.ensures.rows ∙ c.index.ensures ∙ get_or_default places c.args.place c.index.result.now [] here in (
       subst (λ (rows : List HostRow). Unites (set places c.args.place rows) c.exchange.new.self) c.as_slice.ensures.rows
           (c.in_ok-diff.ensures.exchanges places here before c.self.invariant.0).unites,
       set_fit places c.args.place c.args.rows c.self.invariant.1 (subst (AllByRecursion IsRow) c.as_slice.ensures.rows c.as_slice.ensures.fit),
@@ -22,8 +23,10 @@ pub returns-clause-steps : goal.returns-clause-steps
 returns-clause-steps g c =
     let places : List (List HostRow) = c.self.inside.places.items in
     let here : c.args.place < length places = subst (λ (all : List (List HostRow)). c.args.place < length all) (sym c.self.view_is) c.requires in
-    let before : c.as_slice-before.result.now ≡ get_or places c.args.place [] = c.as_slice-before.ensures.rows ∙ c.index.ensures ∙ get_or_default places c.args.place c.index.result.now [] here in
-    steps_of_tables c.args.self.now places c.self.inside.union c.exchange.new.self c.args.place c.as_slice-before.result.now c.as_slice.result.now c.args.rows _ _
+    let before : c.as_slice-before.result.now ≡ get_or places c.args.place [] =
+    c.as_slice-before.ensures.rows ∙ c.index.ensures ∙ get_or_default places c.args.place c.index.result.now [] here in
+    steps_of_tables c.args.self.now places c.self.inside.union c.exchange.new.self c.args.place c.as_slice-before.result.now c.as_slice.result.now c.args.rows _
+    _
     c.self.view_is c.self.invariant.0 (c.in_ok-diff.ensures.exchanges places here before c.self.invariant.0).unites here before c.as_slice.ensures.rows
     c.exchange.ensures.steps
 

@@ -15,11 +15,15 @@ invariant_of-self-2 c =
     let long : length more ≡ length places + length {A = List HostRow} ([] ∷ []) = length-append places ([] ∷ []) in
     let here : c.len-place.result < length more = omega arith in
     let unites : Unites (set more c.len-place.result c.as_slice.result.now) c.exchange.new.self =
-    (c.in_ok-_diff.ensures.exchanges more here (empty_last places ∙ ap (λ (n : ℕ). get_or more n []) (sym at)) (with_empty places c.self.inside.union c.self.invariant.0)).unites in
+    (c.in_ok-_diff.ensures.exchanges more here (empty_last places ∙ ap (λ (n : ℕ). get_or more n []) (sym at))
+    (with_empty places c.self.inside.union c.self.invariant.0)).unites
+    in
     let filled : set more c.len-place.result c.as_slice.result.now ≡ places ++ c.args.rows ∷ [] =
-    ap (λ (n : ℕ). set more n c.as_slice.result.now) at ∙ filled_last places c.as_slice.result.now ∙ ap (λ (rows : List HostRow). places ++ rows ∷ []) c.as_slice.ensures.rows in
+    ap (λ (n : ℕ). set more n c.as_slice.result.now) at ∙ filled_last places c.as_slice.result.now
+    ∙ ap (λ (rows : List HostRow). places ++ rows ∷ []) c.as_slice.ensures.rows in
     let pushed : c.push.new.self.items ≡ places ++ c.args.rows ∷ [] = search rules in (
       subst (λ (all : List (List HostRow)). Unites all c.exchange.new.self) (filled ∙ sym pushed) unites,
       subst AllFit (sym pushed)
-          (all_join (AllByRecursion IsRow) places (c.args.rows ∷ []) c.self.invariant.1 (subst (AllByRecursion IsRow) c.as_slice.ensures.rows c.as_slice.ensures.fit, tt)),
+          (all_join (AllByRecursion IsRow) places (c.args.rows ∷ []) c.self.invariant.1
+          (subst (AllByRecursion IsRow) c.as_slice.ensures.rows c.as_slice.ensures.fit, tt)),
     )

@@ -9,4 +9,5 @@ pub returns-clause-rows : goal.returns-clause-rows
 returns-clause-rows c = c.deref.ensures.value ∙ united_wanted c.self.inside.places.items c.self.inside.union c.self.invariant.0 ∙ ap wanted_of c.self.view_is
 
 pub returns-clause-fit : goal.returns-clause-fit
-returns-clause-fit c = subst (AllByRecursion IsRow) (sym c.deref.ensures.value) (united_fit c.self.inside.places.items c.self.inside.union c.self.invariant.0 c.self.invariant.1)
+returns-clause-fit c =
+    subst (AllByRecursion IsRow) (sym c.deref.ensures.value) (united_fit c.self.inside.places.items c.self.inside.union c.self.invariant.0 c.self.invariant.1)

@@ -29,6 +29,7 @@ pub returns-clause-brings : goal.returns-clause-brings
 returns-clause-brings g c = record {
   wanted = c.loop-row.invariant.wanted;
   brought = λ q at. c.loop-row.invariant.brought q at
-      ∙ ap (λ (rows : List HostRow). has_bringing c.args.self.now.brought.items q at || ((at == c.args.place) && has_row rows q)) (take_all c.loop-row.row-index c.args.rows.now c.loop-row-test.false);
+      ∙ ap (λ (rows : List HostRow). has_bringing c.args.self.now.brought.items q at || ((at == c.args.place) && has_row rows q))
+      (take_all c.loop-row.row-index c.args.rows.now c.loop-row-test.false);
   each_once = c.loop-row.invariant.each_once;
 }

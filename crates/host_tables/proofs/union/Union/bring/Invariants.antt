@@ -9,7 +9,8 @@ use Rattle.host_tables.proofs.union.Union.bring.Given as goal
 abbrev pub invariant-loop-row : goal.invariant-loop-row
 invariant-loop-row g l = record {
   wanted : l.self.wanted ≡ l.initial.self.wanted;
-  brought : (q : HostRow) (at : ℕ) → has_bringing l.self.brought.items q at ≡ (has_bringing l.initial.self.brought.items q at || ((at == l.place) && has_row (take l.row-index l.rows) q));
+  brought : (q : HostRow) (at : ℕ)
+      → has_bringing l.self.brought.items q at ≡ (has_bringing l.initial.self.brought.items q at || ((at == l.place) && has_row (take l.row-index l.rows) q));
   each_once : InBringingOrder l.self.brought.items;
   len : vec_len l.self.brought ≤ vec_len l.initial.self.brought + l.row-index;
   capacity : vec_capacity l.initial.self.brought ≤ vec_capacity l.self.brought;

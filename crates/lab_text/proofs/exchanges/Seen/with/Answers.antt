@@ -8,5 +8,6 @@ lacks is_new false new is = refl
 
 pub returns-then-is_new : goal.returns-then-is_new
 returns-then-is_new c =
-    sees_new _ (λ a b. search rules) c.args.self (record { keys = c.insert.new.self; xids = c.args.self.xids }) c.args.exchange (lacks _ _ c.if-is_new.true c.in_ok-is_new.ensures.added)
+    sees_new _ (λ a b. search rules) c.args.self (record { keys = c.insert.new.self; xids = c.args.self.xids }) c.args.exchange
+    (lacks _ _ c.if-is_new.true c.in_ok-is_new.ensures.added)
     c.in_ok-is_new.ensures.updates.0 refl

@@ -20,7 +20,9 @@ invariant_of-result c =
     let kept : KeepsThose (messages_of (sent ++ one ∷ [])) c.match-branch-2.exchanges =
     elim c.match-branch-2.branch [
       | in-Some+in_ok-exchanges-in-Some w ↦ subst (λ (e : Exchanges). KeepsThose (messages_of (sent ++ one ∷ [])) e) (sym w.exchanges-is)
-          (heard_more sent one w.in-Some.message c.self.inside.exchanges w.in_ok-exchanges-in-Some.exchanges (read ∙ w.in-Some.is) c.self.invariant w.in_ok-exchanges-in-Some.ensures)
-      | in-None w ↦ subst (λ (e : Exchanges). KeepsThose (messages_of (sent ++ one ∷ [])) e) (sym w.exchanges-is) (unheard_more sent one c.self.inside.exchanges (read ∙ w.in-None.is) c.self.invariant)
+          (heard_more sent one w.in-Some.message c.self.inside.exchanges w.in_ok-exchanges-in-Some.exchanges
+          (read ∙ w.in-Some.is) c.self.invariant w.in_ok-exchanges-in-Some.ensures)
+      | in-None w ↦ subst (λ (e : Exchanges). KeepsThose (messages_of (sent ++ one ∷ [])) e) (sym w.exchanges-is)
+          (unheard_more sent one c.self.inside.exchanges (read ∙ w.in-None.is) c.self.invariant)
     ] in
     subst (λ (all : List Sending). KeepsThose (messages_of all) c.match-branch-2.exchanges) (sym longer) kept

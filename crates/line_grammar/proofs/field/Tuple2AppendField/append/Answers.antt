@@ -11,4 +11,5 @@ pub returns-in_err-append-2-clause-err : goal.returns-in_err-append-2-clause-err
 returns-in_err-append-2-clause-err g c =
     let front = c.in_ok-append_bytes.ensures.ok ∙ ap (λ bytes. bytes ++ 32 ∷ []) c.in_ok-append.ensures.ok ∙ append_assoc c.args.into.now.items _ (32 ∷ []) in
     on_any_err c.from_residual-in_err-append-2.result
-    (less_stands c.args.into.now.items _ c.append-2.new.into.items (subst (λ bytes. StandsInFront bytes c.append-2.new.into.items) front c.in_err-append-2.ensures.err))
+    (less_stands c.args.into.now.items _ c.append-2.new.into.items
+    (subst (λ bytes. StandsInFront bytes c.append-2.new.into.items) front c.in_err-append-2.ensures.err))

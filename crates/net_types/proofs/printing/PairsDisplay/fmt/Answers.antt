@@ -12,7 +12,9 @@ pub pieces-preserved : goal.pieces-preserved
 pieces-preserved g c = λ plain.
     let before = c.pieces.invariant plain in
     let piece = c.in_ok-write.ensures.writes before.0 refl in
-    let whole = sym (flat_map-append byte_hex c.split_at.result.0.now c.split_at.result.1.now) ∙ ap (λ bytes. flat_map byte_hex bytes) (sym c.split_at.ensures.by_index.0) in
+    let whole =
+    sym (flat_map-append byte_hex c.split_at.result.0.now c.split_at.result.1.now)
+    ∙ ap (λ bytes. flat_map byte_hex bytes) (sym c.split_at.ensures.by_index.0) in
     (piece.plain, λ last written. before.1 last (put_two _ _ _ _ _ _ _ piece written whole))
 
 pub returns-clause-writes : goal.returns-clause-writes
