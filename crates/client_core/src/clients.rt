@@ -160,7 +160,8 @@ pub struct Stepped {
 /// One turn: what comes of it, and what the outside is asked.
 pub fn step(core: Core, turn: Turn<'_>) -> Result<Stepped, NoMemory>
     requires { IsMoment turn.at }
-    ensures steps { IfOk result (λ done. Steps (client_turned (turn_of turn.entry) core) done.core (asked_in done.outs)) }
+    ensures steps { IfOk result
+        (λ done. Steps (client_turned (turn_of turn.entry) core) done.core (asked_in done.outs)) }
     ensures jobs { IfOk result (λ done. map job_of done.jobs.items ≡ (client_turned (turn_of turn.entry) core).jobs) }
     ensures on_interfaces { IfOk result (λ done. AllByRecursion IsOnInterface (sends_in done.outs)) }
     ensures untouched { IfOk result (λ done. KeepsUntouched done.touched core.ifaces done.core.ifaces) }

@@ -44,7 +44,8 @@ fn router_of(values: &[Value]) -> Option<Ip4>
 
 /// The classless routes.
 fn classless_of(alloc: Global, values: &[Value]) -> Result<Option<Vec<ClasslessRoute>>, NoMemory>
-    ensures routes { IfOk result (λ routes. option_map (λ v. v.items) routes ≡ classless_in (values_content values.now)) }
+    ensures routes { IfOk result
+        (λ routes. option_map (λ v. v.items) routes ≡ classless_in (values_content values.now)) }
     ensures fit { IfOk result (λ routes. IfSome routes (λ v. AllByRecursion HasDestination v.items)) }
 {
     match value_in(values, CLASSLESS_ROUTES.into()) {

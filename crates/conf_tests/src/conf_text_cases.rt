@@ -108,7 +108,8 @@ fn the_words_that_do_nothing(rt: HostRuntime) -> Result<(), Fail> {
     // the directives of a configuration as distributions ship it
     let text = b"hostname\nduid\npersistent\nvendorclassid\noption rapid_commit\n\
         option domain_name_servers, domain_name, domain_search\noption classless_static_routes\noption interface_mtu\n\
-        require dhcp_server_identifier\nslaac private\nprofile a\nfoo\ninterface eth0\nscript /dev/null\nnooption 51,x\n";
+        require dhcp_server_identifier\nslaac private\nprofile a\nfoo\ninterface eth0\nscript /dev/null\n\
+        nooption 51,x\n";
     let conf = read_conf(rt.alloc(), text)?;
     let expected: [(u32, &str); 6] = [
         (1, "hostname"),

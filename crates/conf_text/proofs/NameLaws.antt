@@ -87,8 +87,12 @@ none_added before first name =
     → (list_any (is_named name) before ≡ false) × (is_named name first ≡ false)) [
       | true ↦ (λ e none. (
         none,
-        elim (is_named name first) as (λ b. is_named name first ≡ b → b ≡ false)
-            [ true ↦ (λ h. absurd (true≢false (sym e ∙ any_alike (is_named first) (is_named name) (named_alike name first (named_same name first h)) before ∙ none))) | false ↦ (λ h. refl) ]
+        elim (is_named name first) as (λ b. is_named name first ≡ b → b ≡ false) [
+          | true ↦
+              (λ h. absurd (true≢false (sym e ∙ any_alike (is_named first) (is_named name) (named_alike name first (named_same name first h)) before ∙ none)))
+          | false ↦
+              (λ h. refl)
+        ]
             refl,
       ))
       | false ↦ (λ e none.

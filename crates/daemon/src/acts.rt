@@ -67,7 +67,8 @@ pub fn act<W: Outside>(
     ensures does { IfOk result
         (λ life. ActsAs managed.now outlook step life (W.seen outside.old)
         (W.seen outside.new) text.old.items text.new.items) }
-    ensures begun { IfErr result (λ _. BeginsActing managed.now outlook step (W.seen outside.old) (W.seen outside.new)) }
+    ensures begun { IfErr result
+        (λ _. BeginsActing managed.now outlook step (W.seen outside.old) (W.seen outside.new)) }
     ensures child { IfOk result (λ life. KnowsChild life.hooks (W.seen outside.new)) }
     ensures moment { IfOk result (λ life. life.moment ≡ outlook.moment) }
     ensures stop { IfOk result (λ life. life.stop ≡ outlook.stop) }

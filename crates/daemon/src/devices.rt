@@ -75,7 +75,8 @@ fn list_of<H: Host>(alloc: Global, host: &mut H) -> Result<Option<Vec<HostRow>>,
 #[tactic(auto, using(crate::proofs::Answers::done_by, crate::proofs::Answers::undone_by, crate::proofs::Answers::unchanged))]
 fn change_of<H: Host>(host: &mut H, change: HostChange) -> Result<bool, NoMemory>
     requires { FitsChange change }
-    ensures changed { IfOk result (λ done. ChangedBy change done (H.failing host.old) (H.told host.old) (H.told host.new)) }
+    ensures changed { IfOk result
+        (λ done. ChangedBy change done (H.failing host.old) (H.told host.old) (H.told host.new)) }
     ensures counted { IfOk result
         (λ done. CountsFailed failed_host_call (change_call change done ∷ []) (H.faults host.old)
         (H.faults host.new)) }
@@ -106,7 +107,8 @@ fn asides_of<S: Store>(alloc: Global, store: &mut S) -> Result<Option<Vec<String
     ensures fit { IfOk result
         (λ names. IfSome names (λ v. AllByRecursion (λ name. IsFileName (string_bytes name)) v.items)) }
     ensures failing { S.failing store.new ≡ S.failing store.old }
-    ensures memory { IfErr result (λ _. (S.told store.new ≡ S.told store.old) × (S.faults store.new ≡ S.faults store.old)) }
+    ensures memory { IfErr result
+        (λ _. (S.told store.new ≡ S.told store.old) × (S.faults store.new ≡ S.faults store.old)) }
 {
     let mut names = Vec::new(alloc);
     match store.list_asides(&mut names) {
@@ -128,7 +130,8 @@ fn read_from<S: Store>(alloc: Global, store: &mut S, name: &str) -> Result<Got, 
         (λ got. CountsFailed failed_store_call (ReadFile name.now (got_reading got) ∷ []) (S.faults store.old)
         (S.faults store.new)) }
     ensures failing { S.failing store.new ≡ S.failing store.old }
-    ensures memory { IfErr result (λ _. (S.told store.new ≡ S.told store.old) × (S.faults store.new ≡ S.faults store.old)) }
+    ensures memory { IfErr result
+        (λ _. (S.told store.new ≡ S.told store.old) × (S.faults store.new ≡ S.faults store.old)) }
 {
     let mut bytes = Vec::new(alloc);
     match store.read_file(name, &mut bytes) {
@@ -151,7 +154,8 @@ fn write_to<S: Store>(store: &mut S, name: &str, bytes: &[u8]) -> Result<bool, N
         (λ done. CountsFailed failed_store_call (WroteAside name.now bytes.now done ∷ []) (S.faults store.old)
         (S.faults store.new)) }
     ensures failing { S.failing store.new ≡ S.failing store.old }
-    ensures memory { IfErr result (λ _. (S.told store.new ≡ S.told store.old) × (S.faults store.new ≡ S.faults store.old)) }
+    ensures memory { IfErr result
+        (λ _. (S.told store.new ≡ S.told store.old) × (S.faults store.new ≡ S.faults store.old)) }
 {
     match store.write_aside(name, bytes) {
         Ok(()) => Ok(true),
@@ -172,7 +176,8 @@ fn sync_in<S: Store>(store: &mut S, name: &str) -> Result<bool, NoMemory>
         (λ done. CountsFailed failed_store_call (SyncedAside name.now done ∷ []) (S.faults store.old)
         (S.faults store.new)) }
     ensures failing { S.failing store.new ≡ S.failing store.old }
-    ensures memory { IfErr result (λ _. (S.told store.new ≡ S.told store.old) × (S.faults store.new ≡ S.faults store.old)) }
+    ensures memory { IfErr result
+        (λ _. (S.told store.new ≡ S.told store.old) × (S.faults store.new ≡ S.faults store.old)) }
 {
     match store.sync_aside(name) {
         Ok(()) => Ok(true),
@@ -193,7 +198,8 @@ fn rename_in<S: Store>(store: &mut S, name: &str) -> Result<bool, NoMemory>
         (λ done. CountsFailed failed_store_call (RenamedAside name.now done ∷ []) (S.faults store.old)
         (S.faults store.new)) }
     ensures failing { S.failing store.new ≡ S.failing store.old }
-    ensures memory { IfErr result (λ _. (S.told store.new ≡ S.told store.old) × (S.faults store.new ≡ S.faults store.old)) }
+    ensures memory { IfErr result
+        (λ _. (S.told store.new ≡ S.told store.old) × (S.faults store.new ≡ S.faults store.old)) }
 {
     match store.rename_aside(name) {
         Ok(()) => Ok(true),
@@ -214,7 +220,8 @@ fn remove_from<S: Store>(store: &mut S, name: &str) -> Result<bool, NoMemory>
         (λ done. CountsFailed failed_store_call (RemovedFile name.now done ∷ []) (S.faults store.old)
         (S.faults store.new)) }
     ensures failing { S.failing store.new ≡ S.failing store.old }
-    ensures memory { IfErr result (λ _. (S.told store.new ≡ S.told store.old) × (S.faults store.new ≡ S.faults store.old)) }
+    ensures memory { IfErr result
+        (λ _. (S.told store.new ≡ S.told store.old) × (S.faults store.new ≡ S.faults store.old)) }
 {
     match store.remove(name) {
         Ok(()) => Ok(true),
@@ -232,7 +239,8 @@ fn settle_in<S: Store>(store: &mut S) -> Result<bool, NoMemory>
         (λ done. CountsFailed failed_store_call (SettledFiles done ∷ []) (S.faults store.old)
         (S.faults store.new)) }
     ensures failing { S.failing store.new ≡ S.failing store.old }
-    ensures memory { IfErr result (λ _. (S.told store.new ≡ S.told store.old) × (S.faults store.new ≡ S.faults store.old)) }
+    ensures memory { IfErr result
+        (λ _. (S.told store.new ≡ S.told store.old) × (S.faults store.new ≡ S.faults store.old)) }
 {
     match store.settle() {
         Ok(()) => Ok(true),

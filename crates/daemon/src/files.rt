@@ -41,7 +41,8 @@ fn read_if<W: Outside>(
     ensures does { IfOk result
         (λ got. Does (reading_if is_kept name.now) (option_map got_reading got) (W.seen outside.old)
         (W.seen outside.new) text.old.items text.new.items) }
-    ensures begun { IfErr result (λ _. HasBegun (reading_if is_kept name.now) (W.seen outside.old) (W.seen outside.new)) }
+    ensures begun { IfErr result
+        (λ _. HasBegun (reading_if is_kept name.now) (W.seen outside.old) (W.seen outside.new)) }
     ensures waiting { (W.seen outside.new).waiting ≡ (W.seen outside.old).waiting }
 {
     if !is_kept {
@@ -170,7 +171,8 @@ fn load_leases<W: Outside>(
         (λ found. LoadsLeases managed.now duid.now.bytes.items files.items
         (map beginning_of found.beginnings.items) found.files.items
         (W.seen outside.old) (W.seen outside.new) text.old.items text.new.items) }
-    ensures begun { IfErr result (λ _. HasBegun (loading.loading managed.now) (W.seen outside.old) (W.seen outside.new)) }
+    ensures begun { IfErr result
+        (λ _. HasBegun (loading.loading managed.now) (W.seen outside.old) (W.seen outside.new)) }
     ensures fit { IfOk result (λ found. AreBeginnings (map beginning_of found.beginnings.items)) }
     ensures waiting { (W.seen outside.new).waiting ≡ (W.seen outside.old).waiting }
 {

@@ -54,7 +54,8 @@ fn poll<W: Outside>(
     ensures does { IfOk result
         (λ answer. Does (Then (asks.Poll number) Done) answer (W.seen outside.old)
         (W.seen outside.new) text.old.items text.new.items) }
-    ensures begun { IfErr result (λ _. HasBegun (Then (asks.Poll number) Done) (W.seen outside.old) (W.seen outside.new)) }
+    ensures begun { IfErr result
+        (λ _. HasBegun (Then (asks.Poll number) Done) (W.seen outside.old) (W.seen outside.new)) }
     ensures child { IfOk result (λ answer. (W.seen outside.new).waiting.child ≡ runs_on answer) }
     ensures waiting { OnlyChild (W.seen outside.old).waiting (W.seen outside.new).waiting }
 {
@@ -69,7 +70,8 @@ fn abandon<W: Outside>(outside: &mut W, number: u64, text: &mut Vec<u8>) -> Resu
     ensures does { IfOk result
         (λ x. Does (Then (Abandon number) Done) x (W.seen outside.old)
         (W.seen outside.new) text.old.items text.new.items) }
-    ensures begun { IfErr result (λ _. HasBegun (Then (Abandon number) Done) (W.seen outside.old) (W.seen outside.new)) }
+    ensures begun { IfErr result
+        (λ _. HasBegun (Then (Abandon number) Done) (W.seen outside.old) (W.seen outside.new)) }
     ensures child { (W.seen outside.new).waiting.child ≡ false }
     ensures waiting { OnlyChild (W.seen outside.old).waiting (W.seen outside.new).waiting }
 {
@@ -209,7 +211,8 @@ fn put_all(
     jobs: Vec<HookJob>,
     text: &mut Vec<u8>,
 ) -> Result<(), NoMemory>
-    ensures puts { OnOk result (Puts (putting (map job_of jobs.items) hooks.old) hooks.new text.old.items text.new.items) }
+    ensures puts { OnOk result
+        (Puts (putting (map job_of jobs.items) hooks.old) hooks.new text.old.items text.new.items) }
     ensures child { hooks.new.child ≡ hooks.old.child }
 {
     for job in jobs {

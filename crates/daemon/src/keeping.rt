@@ -339,7 +339,8 @@ impl KeptFile {
         ensures does { OnOk result
             (KeepsFile core.now.ifaces self.old self.new (W.seen outside.old)
             (W.seen outside.new) text.old.items text.new.items) }
-        ensures begun { IfErr result (λ _. BeginsFile core.now.ifaces self.old (W.seen outside.old) (W.seen outside.new)) }
+        ensures begun { IfErr result
+            (λ _. BeginsFile core.now.ifaces self.old (W.seen outside.old) (W.seen outside.new)) }
         ensures waiting { (W.seen outside.new).waiting ≡ (W.seen outside.old).waiting }
     {
         let wanted = wanted_in(alloc, core, &self.keeps)?;

@@ -93,7 +93,8 @@ pub fn keep_files<W: Outside>(
     ensures does { IfOk result
         (λ kept. Does (keeping core.now.ifaces files) kept (W.seen outside.old)
         (W.seen outside.new) text.old.items text.new.items) }
-    ensures begun { IfErr result (λ _. HasBegun (keeping core.now.ifaces files) (W.seen outside.old) (W.seen outside.new)) }
+    ensures begun { IfErr result
+        (λ _. HasBegun (keeping core.now.ifaces files) (W.seen outside.old) (W.seen outside.new)) }
     ensures waiting { (W.seen outside.new).waiting ≡ (W.seen outside.old).waiting }
     ensures kept { IfOk result (λ kept. AreKept core.now.ifaces kept) }
 {

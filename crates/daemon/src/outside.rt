@@ -111,7 +111,8 @@ pub trait Outside {
     fn start(&mut self, job: &HookJob) -> Result<bool, NoMemory>
         requires { (seen self.old).waiting.child ≡ false }
         ensures one { IfOk result (λ done. One (Start (job_of job.now)) done (seen self.old) (seen self.new)) }
-        ensures child { IfOk result (λ done. (seen self.new).waiting ≡ record (seen self.old).waiting { child = done }) }
+        ensures child { IfOk result
+            (λ done. (seen self.new).waiting ≡ record (seen self.old).waiting { child = done }) }
         ensures memory { IfErr result (λ _. seen self.new ≡ seen self.old) };
 
     /// Asks whether the child still runs, which is that of the job of a number; `None` where that failed.

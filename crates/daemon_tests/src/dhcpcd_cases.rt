@@ -11,7 +11,8 @@ const SCRIPT: &[u8] = b"dhcpcd-script 1\nstart 0 0 up -\nturn 5 0 quiet\n";
 
 /// The head of its transcript, the line that begins the life and the opening, which are written each in one call.
 const FIRST_WRITES: &[u8] =
-    b"dhcpcd-transcript 1\nlife 1\nstart 0 0 up -\nstore list ok\nstore read resolv.conf none\nhost list ok 0\nuntil none\n";
+    b"dhcpcd-transcript 1\nlife 1\nstart 0 0 up -\nstore list ok\nstore read resolv.conf none\nhost list ok 0\n\
+    until none\n";
 
 /// Streams of which some calls fail, by their numbers from 1.
 #[derive(Drop)]

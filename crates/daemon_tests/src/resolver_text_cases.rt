@@ -69,7 +69,8 @@ fn parts_in_order_without_duplicates(rt: HostRuntime) -> Result<(), Fail> {
     )?)?;
     assert_eq!(rt;
         resolver(rt.alloc(), &parts)?.as_str(),
-        "search a.example b.example last\nnameserver 10.0.0.1\nnameserver 10.0.0.9\nnameserver fe80::1%eth0\nnameserver 2001::1\n"
+        "search a.example b.example last\nnameserver 10.0.0.1\nnameserver 10.0.0.9\nnameserver fe80::1%eth0\n\
+        nameserver 2001::1\n"
     );
     Ok(())
 }
@@ -98,7 +99,8 @@ fn shared_servers_are_printed_once(rt: HostRuntime) -> Result<(), Fail> {
     }
     assert_eq!(rt;
         resolver(rt.alloc(), &parts)?.as_str(),
-        "nameserver 10.0.0.1\nnameserver fe80::1%eth0\nnameserver 2001::1\nnameserver fe80::1%eth1\nnameserver fe80::1%eth2\n"
+        "nameserver 10.0.0.1\nnameserver fe80::1%eth0\nnameserver 2001::1\nnameserver fe80::1%eth1\n\
+        nameserver fe80::1%eth2\n"
     );
     Ok(())
 }
@@ -123,7 +125,8 @@ fn sixteen_names_and_eight_servers(rt: HostRuntime) -> Result<(), Fail> {
     let many = part(&rt, 0, Family::V4, &servers, &names)?;
     assert_eq!(rt;
         resolver(rt.alloc(), &[many])?.as_str(),
-        "search a b c d e f g h i j k l m n o p\nnameserver 10.0.0.1\nnameserver 10.0.0.2\nnameserver 10.0.0.3\nnameserver 10.0.0.4\nnameserver 10.0.0.5\nnameserver 10.0.0.6\nnameserver 10.0.0.7\nnameserver 10.0.0.8\n"
+        "search a b c d e f g h i j k l m n o p\nnameserver 10.0.0.1\nnameserver 10.0.0.2\nnameserver 10.0.0.3\n\
+        nameserver 10.0.0.4\nnameserver 10.0.0.5\nnameserver 10.0.0.6\nnameserver 10.0.0.7\nnameserver 10.0.0.8\n"
     );
     Ok(())
 }
@@ -141,7 +144,8 @@ fn limits_over_several_parts(rt: HostRuntime) -> Result<(), Fail> {
     parts.push(part(&rt, 40, Family::V4, &[four(10)], &["f"])?)?;
     assert_eq!(rt;
         resolver(rt.alloc(), &parts)?.as_str(),
-        "search a b d c e f\nnameserver 10.0.0.1\nnameserver 10.0.0.2\nnameserver 10.0.0.4\nnameserver 10.0.0.3\nnameserver 10.0.0.5\nnameserver 10.0.0.6\nnameserver 10.0.0.7\nnameserver 10.0.0.8\n"
+        "search a b d c e f\nnameserver 10.0.0.1\nnameserver 10.0.0.2\nnameserver 10.0.0.4\nnameserver 10.0.0.3\n\
+        nameserver 10.0.0.5\nnameserver 10.0.0.6\nnameserver 10.0.0.7\nnameserver 10.0.0.8\n"
     );
     Ok(())
 }

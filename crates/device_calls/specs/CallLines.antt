@@ -31,7 +31,11 @@ store_lines (SettledFiles done) = lines.Settled done ∷ []
 
 -- the interface of a job, as its variable of that name has it
 abbrev pub interface_of : Job → List ℕ
-interface_of job = unwrap_or (option_map (λ variable. variable.value) (find (λ variable. bytes_eq variable.name (codes "interface")) job.vars)) []
+interface_of job =
+    unwrap_or
+    (option_map (λ variable. variable.value)
+    (find (λ variable. bytes_eq variable.name (codes "interface")) job.vars))
+    []
 
 abbrev pub variable_line : Variable → Line
 variable_line variable = lines.Variable variable.name variable.value

@@ -13,7 +13,8 @@ use Rattle.dhcpcd.specs.Works.{IsDecided, MayRefuse, Serves}
 use Rattle.dhcpcd.specs.Replays.{notice_line}
 
 -- the notices, and then `ok`
-pub all_said : (t u v : List ℕ) (said : List NoticeContent) (conf : Configuration) → said ≡ conf.notices → Prints t u (map notice_line said) → v ≡ u ++ codes "ok\n" → v ≡ t ++ check_text conf
+pub all_said : (t u v : List ℕ) (said : List NoticeContent) (conf : Configuration) → said ≡ conf.notices → Prints t u (map notice_line said)
+    → v ≡ u ++ codes "ok\n" → v ≡ t ++ check_text conf
 all_said t u v said conf same p e =
     e ∙ ap (λ (x : List ℕ). x ++ codes "ok\n") (p.appended ∙ ap (λ (ns : List NoticeContent). t ++ lines_text (map notice_line ns)) same)
     ∙ append_assoc t (lines_text (map notice_line conf.notices)) (codes "ok\n")

@@ -34,7 +34,8 @@ import_sound (a ∷ []) on e = cc
 import_sound (a ∷ b ∷ []) on e = cc
 import_sound (a ∷ b ∷ c ∷ d ∷ words) on e = cc
 import_sound (work ∷ name ∷ mac ∷ []) on e =
-    elim (bytes_eq work (codes "import")) as (λ b. bytes_eq work (codes "import") ≡ b → cond b (taken_on_at name mac) None ≡ Some on → AsksImport (work ∷ name ∷ mac ∷ []) on.name on.mac) [
+    elim (bytes_eq work (codes "import")) as
+    (λ b. bytes_eq work (codes "import") ≡ b → cond b (taken_on_at name mac) None ≡ Some on → AsksImport (work ∷ name ∷ mac ∷ []) on.name on.mac) [
       | true ↦ λ t q.
           let taken = taken_sound name mac on q in
           record {

@@ -24,7 +24,8 @@ make_sound [] rounds e = cc
 make_sound (a ∷ []) rounds e = cc
 make_sound (a ∷ b ∷ c ∷ words) rounds e = cc
 make_sound (work ∷ word ∷ []) rounds e =
-    elim (bytes_eq work (codes "make")) as (λ b. bytes_eq work (codes "make") ≡ b → cond b (rounds_at word) None ≡ Some rounds → AsksMake (work ∷ word ∷ []) rounds) [
+    elim (bytes_eq work (codes "make")) as
+    (λ b. bytes_eq work (codes "make") ≡ b → cond b (rounds_at word) None ≡ Some rounds → AsksMake (work ∷ word ∷ []) rounds) [
       | true ↦ λ t q.
           let read = rounds_reads.sound word rounds q in
           record {

@@ -43,10 +43,12 @@ impl TextWork for CheckWork {
 #[tactic(auto, using(crate::proofs::CheckTexts::checking_is_decided, crate::proofs::CheckTexts::configuration_serves))]
 pub fn check<I: Source, O: Sink>(alloc: Global, input: &mut I, out: &mut O) -> Status
     ensures answer { IsCheckAnswer result (I.left input.old) (O.written out.old) (O.written out.new) }
-    ensures cause { HasStatusCause result (I.faults input.old) (I.faults input.new) (O.faults out.old) (O.faults out.new) }
+    ensures cause { HasStatusCause result (I.faults input.old) (I.faults input.new) (O.faults out.old)
+        (O.faults out.new) }
     ensures complete { TellsConfiguration (I.left input.old) → I.faults input.new ≡ I.faults input.old
         → O.faults out.new ≡ O.faults out.old → Completes result }
-    ensures checks { TellsConfiguration (I.left input.old) → I.never_fails input.old ≡ true → O.never_fails out.old ≡ true
+    ensures checks { TellsConfiguration (I.left input.old) → I.never_fails input.old ≡ true
+        → O.never_fails out.old ≡ true
         → Completes result }
     ensures reads { ReadsWithin (input_told (I.left input.old) (I.taken input.old) (I.reads input.old))
         (input_told (I.left input.new) (I.taken input.new) (I.reads input.new)) }

@@ -34,7 +34,8 @@ impl TextWork for DumpWork {
 #[tactic(auto, using(crate::proofs::InputWorks::dumping_is_decided))]
 pub fn dump_lease<I: Source, O: Sink>(alloc: Global, input: &mut I, out: &mut O) -> Status
     ensures answer { IsDumpAnswer result (I.left input.old) (O.written out.old) (O.written out.new) }
-    ensures cause { HasStatusCause result (I.faults input.old) (I.faults input.new) (O.faults out.old) (O.faults out.new) }
+    ensures cause { HasStatusCause result (I.faults input.old) (I.faults input.new) (O.faults out.old)
+        (O.faults out.new) }
     ensures complete { Serves dumping (I.left input.old) → I.faults input.new ≡ I.faults input.old
         → O.faults out.new ≡ O.faults out.old → Completes result }
     ensures serves { Serves dumping (I.left input.old) → I.never_fails input.old ≡ true → O.never_fails out.old ≡ true

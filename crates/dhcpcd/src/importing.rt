@@ -42,7 +42,8 @@ pub fn import_capture<I: Source, O: Sink>(
 ) -> Status
     ensures answer { IsImportAnswer (spec_of on.name on.mac) result (I.left input.old) (O.written out.old)
         (O.written out.new) }
-    ensures cause { HasStatusCause result (I.faults input.old) (I.faults input.new) (O.faults out.old) (O.faults out.new) }
+    ensures cause { HasStatusCause result (I.faults input.old) (I.faults input.new) (O.faults out.old)
+        (O.faults out.new) }
     ensures complete { Serves (importing (spec_of on.name on.mac)) (I.left input.old)
         → I.faults input.new ≡ I.faults input.old → O.faults out.new ≡ O.faults out.old → Completes result }
     ensures serves { Serves (importing (spec_of on.name on.mac)) (I.left input.old) → I.never_fails input.old ≡ true

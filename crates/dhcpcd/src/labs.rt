@@ -52,7 +52,8 @@ impl TextWork for LabWork {
 pub fn lab<I: Source, O: Sink>(alloc: Global, input: &mut I, out: &mut O) -> Status
     ensures answer { IsLabAnswer result (I.left input.old) (O.written out.old) (O.written out.new) }
     ensures apart { result ≡ Status.Done → IsHeldApart (I.left input.old) (O.written out.old) (O.written out.new) }
-    ensures cause { HasStatusCause result (I.faults input.old) (I.faults input.new) (O.faults out.old) (O.faults out.new) }
+    ensures cause { HasStatusCause result (I.faults input.old) (I.faults input.new) (O.faults out.old)
+        (O.faults out.new) }
     ensures complete { Serves lab_work (I.left input.old) → I.faults input.new ≡ I.faults input.old
         → O.faults out.new ≡ O.faults out.old → Completes result }
     ensures serves { Serves lab_work (I.left input.old) → I.never_fails input.old ≡ true → O.never_fails out.old ≡ true

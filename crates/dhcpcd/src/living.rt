@@ -132,7 +132,8 @@ pub fn live<I: Source, O: Sink, W: Outside>(
     requires fit { FitInterfaces specs.now }
     ensures answer { IsLiveAnswer result specs.now turns (I.left input.old)
         (around (O.written out.old) (O.written out.new) (W.seen live.old) (W.seen live.new)) }
-    ensures cause { HasStatusCause result (I.faults input.old) (I.faults input.new) (O.faults out.old) (O.faults out.new) }
+    ensures cause { HasStatusCause result (I.faults input.old) (I.faults input.new) (O.faults out.old)
+        (O.faults out.new) }
     ensures link { HasLinkCause result (W.seen live.old).waiting.faults (W.seen live.new).waiting.faults }
     ensures complete { TellsConfiguration (I.left input.old)
         → I.faults input.new ≡ I.faults input.old

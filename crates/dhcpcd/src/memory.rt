@@ -228,7 +228,8 @@ pub fn leave<T: Drop>(value: T) {
 pub fn left(number: u64, live: Memory, crash: Option<CrashLine>) -> Result<Between, NoMemory>
     ensures counts { IfOk result (λ next. (next.lives ≡ number) × (next.sent ≡ live.link.told.sends)) }
     ensures host { IfOk result (λ next. next.host ≡ live.host) }
-    ensures told { IfOk result (λ next. next.store.told ≡ store_left (option_map content.crash_of crash) live.store.told) }
+    ensures told { IfOk result
+        (λ next. next.store.told ≡ store_left (option_map content.crash_of crash) live.store.told) }
     ensures failing { IfOk result (λ next. next.store.failing ≡ live.store.failing) }
     ensures hooks { IfOk result (λ next. next.hooks ≡ forgotten live.hooks) }
 {

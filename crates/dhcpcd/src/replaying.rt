@@ -23,7 +23,8 @@ use world::{Sink, Source};
 pub fn write_transcript<O: Sink>(alloc: Global, settled: Settled, out: &mut O) -> Result<(), Status>
     requires managed { AreManaged settled.managed.items }
     requires fits { FitsScript (content.script_of settled.script) }
-    requires manages { settled.managed.items ≡ managed_in (content.script_of settled.script) (configuration settled.conf) }
+    requires manages { settled.managed.items
+        ≡ managed_in (content.script_of settled.script) (configuration settled.conf) }
     ensures ok { IfOk result
         (λ _. (O.faults out.old ≤ O.faults out.new)
         × WritesLines (O.written out.old) (O.written out.new)
@@ -72,7 +73,8 @@ fn replay_input<I: Source, O: Sink>(alloc: Global, input: &mut I, out: &mut O) -
 /// Replays the script that the input spells, and writes its transcript.
 pub fn replay<I: Source, O: Sink>(alloc: Global, input: &mut I, out: &mut O) -> Status
     ensures answer { IsAnswer result (I.left input.old) (O.written out.old) (O.written out.new) }
-    ensures cause { HasStatusCause result (I.faults input.old) (I.faults input.new) (O.faults out.old) (O.faults out.new) }
+    ensures cause { HasStatusCause result (I.faults input.old) (I.faults input.new) (O.faults out.old)
+        (O.faults out.new) }
     ensures complete { TellsScript (I.left input.old) → I.faults input.new ≡ I.faults input.old
         → O.faults out.new ≡ O.faults out.old → Completes result }
     ensures replays { TellsScript (I.left input.old) → I.never_fails input.old ≡ true → O.never_fails out.old ≡ true

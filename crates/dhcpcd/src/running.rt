@@ -73,7 +73,8 @@ pub fn run<I: Source, O: Sink, W: Outside>(
         → (I.reads input.new ≡ I.reads input.old) × (I.left input.new ≡ I.left input.old) }
     ensures unwritten { (AskWork (map string_bytes words.now) → ⊥) → O.written out.new ≡ O.written out.old }
     ensures unasked { (AskLive (map string_bytes words.now) → ⊥) → W.seen devices.new ≡ W.seen devices.old }
-    ensures cause { HasStatusCause result (I.faults input.old) (I.faults input.new) (O.faults out.old) (O.faults out.new) }
+    ensures cause { HasStatusCause result (I.faults input.old) (I.faults input.new) (O.faults out.old)
+        (O.faults out.new) }
     ensures link { HasLinkCause result (W.seen devices.old).waiting.faults (W.seen devices.new).waiting.faults }
     ensures complete { AskGoodReplay (map string_bytes words.now) (I.left input.old)
         → StreamsHeld (I.faults input.old) (I.faults input.new) (O.faults out.old) (O.faults out.new)
@@ -108,7 +109,8 @@ pub fn run<I: Source, O: Sink, W: Outside>(
         → StreamsNeverFail (I.never_fails input.old) (O.never_fails out.old)
         → WaitsNeverFail (W.seen devices.old)
         → CompletesLife result }
-    ensures make_complete { AskMake (map string_bytes words.now) → O.faults out.new ≡ O.faults out.old → Completes result }
+    ensures make_complete { AskMake (map string_bytes words.now) → O.faults out.new ≡ O.faults out.old
+        → Completes result }
     ensures makes { AskMake (map string_bytes words.now) → O.never_fails out.old ≡ true → Completes result }
     ensures reads { AskWork (map string_bytes words.now)
         → ReadsWithin

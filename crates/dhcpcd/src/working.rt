@@ -59,7 +59,8 @@ pub fn perform<K: TextWork, I: Source, O: Sink>(
 ) -> Status
     requires decided { IsDecided (K.work work.now) }
     ensures answer { IsWorked (K.work work.now) result (I.left input.old) (O.written out.old) (O.written out.new) }
-    ensures cause { HasStatusCause result (I.faults input.old) (I.faults input.new) (O.faults out.old) (O.faults out.new) }
+    ensures cause { HasStatusCause result (I.faults input.old) (I.faults input.new) (O.faults out.old)
+        (O.faults out.new) }
     ensures complete { Serves (K.work work.now) (I.left input.old) → I.faults input.new ≡ I.faults input.old
         → O.faults out.new ≡ O.faults out.old → Completes result }
     ensures serves { Serves (K.work work.now) (I.left input.old) → I.never_fails input.old ≡ true

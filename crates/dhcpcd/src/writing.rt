@@ -68,7 +68,8 @@ pub fn begin_life<O: Sink>(alloc: Global, number: u64, out: &mut O) -> Result<()
     ensures ok { IfOk result
         (λ _. (O.faults out.old ≤ O.faults out.new)
         × WritesLines (O.written out.old) (O.written out.new) (lines.Life number ∷ [])) }
-    ensures front { IfErr result (λ _. WritesFront (O.written out.old) (O.written out.new) [] (lines.Life number ∷ [])) }
+    ensures front { IfErr result
+        (λ _. WritesFront (O.written out.old) (O.written out.new) [] (lines.Life number ∷ [])) }
     ensures cause { IfErr result
         (λ status. HasStatusCause status 0 0 (O.faults out.old) (O.faults out.new) × StopsWriting status) }
     ensures steady { O.never_fails out.old ≡ true → O.faults out.new ≡ O.faults out.old }

@@ -32,11 +32,14 @@ fn word(words: &[String], place: usize) -> &str
 
 /// The devices that the words name. Nothing is opened yet, and words that name none make devices that are never asked.
 pub fn devices<'a>(rt: &'a HostRuntime, words: &[String]) -> Result<Machine<'a>, NoMemory>
-    ensures port { IfOk result (λ machine. machine.link.wire.port ≡ port_named (word_at 1 (map string_bytes words.now))) }
-    ensures peer { IfOk result (λ machine. machine.link.wire.peer ≡ port_named (word_at 2 (map string_bytes words.now))) }
+    ensures port { IfOk result
+        (λ machine. machine.link.wire.port ≡ port_named (word_at 1 (map string_bytes words.now))) }
+    ensures peer { IfOk result
+        (λ machine. machine.link.wire.peer ≡ port_named (word_at 2 (map string_bytes words.now))) }
     ensures folder { IfOk result (λ machine. string_bytes machine.store.dir ≡ word_at 3 (map string_bytes words.now)) }
     ensures host { IfOk result (λ machine. string_bytes machine.host.script ≡ word_at 4 (map string_bytes words.now)) }
-    ensures hooks { IfOk result (λ machine. string_bytes machine.hooks.script ≡ word_at 4 (map string_bytes words.now)) }
+    ensures hooks { IfOk result
+        (λ machine. string_bytes machine.hooks.script ≡ word_at 4 (map string_bytes words.now)) }
     ensures child { IfOk result (λ machine. machine.hooks.running ≡ false) }
 {
     let script = word(words, 4);

@@ -272,7 +272,8 @@ fn append_asides<D: Disk>(
     names: &mut Vec<String>,
 ) -> Result<(), DeviceAnswer>
     ensures names { AppendsNames names.old.items names.new.items result }
-    ensures listed { OnOk result (Appends dir.now (D.calls disk.old) (D.calls disk.new) names.old.items names.new.items) }
+    ensures listed { OnOk result
+        (Appends dir.now (D.calls disk.old) (D.calls disk.new) names.old.items names.new.items) }
 {
     let mut found = found_asides(disk, alloc, dir)?;
     let Ok(()) = found.sort() else {
@@ -323,7 +324,8 @@ impl<D: Disk + Drop> FolderStore<D> {
 
     /// The path of a file's aside.
     fn aside(&self, name: &str) -> Result<String, DeviceAnswer>
-        ensures path { IfOk result (λ path. string_bytes path ≡ file_path (string_bytes self.now.dir) (aside_of name.now)) }
+        ensures path { IfOk result
+            (λ path. string_bytes path ≡ file_path (string_bytes self.now.dir) (aside_of name.now)) }
         ensures err { IfErr result (λ answer. answer ≡ DeviceAnswer.NoMemory) }
     {
         match format!(in self.alloc; "{}/{name}{ASIDE}", self.dir) {

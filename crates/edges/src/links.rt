@@ -170,7 +170,8 @@ impl<L: Loopback + Drop, W: Watch + Drop> Wire<L, W> {
     fn receive(&mut self, piece: u64, datagram: &mut [u8]) -> Result<Option<usize>, Failed>
         ensures room { IfOk result (λ got. IfSome got (λ len. len ≤ length datagram.new)) }
         ensures kept { (self.new.peer ≡ self.old.peer) × (self.new.salts ≡ self.old.salts) }
-        ensures asked { Receives piece self.old.peer datagram.new (L.calls self.old.line) (L.calls self.new.line) result }
+        ensures asked { Receives piece self.old.peer datagram.new (L.calls self.old.line)
+            (L.calls self.new.line) result }
     {
         let Ok(()) = self.line.limit(piece) else {
             return Err(Failed);

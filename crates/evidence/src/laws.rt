@@ -89,5 +89,6 @@ pub fn seven_turns_give_a_basis()
     ensures wanted { has_row (rows_of (life_after opens.life seven_turns).client) (Addr interface.spec.index chosen_net)
         ≡ true }
     ensures shown { shown_of opens seven_turns ≡ seven_shown }
-    ensures basis { LinkLocalBasis (site_of (interface ∷ []) (interface.spec ∷ []) opens interface) chosen_net seven_shown }
+    ensures basis { LinkLocalBasis
+        (site_of (interface ∷ []) (interface.spec ∷ []) opens interface) chosen_net seven_shown }
 {}

@@ -222,7 +222,8 @@ pub event_lacks : (event : LabEvent) → FitsAny event → Lacks 10 (event_text 
 event_lacks (Tick at salt) fits = worded_lacks (codes "tick ") (two_words (at, salt)) _ (tick_spelled (at, salt)) refl (two_printable (at, salt) fits)
 event_lacks (Hear at frame) fits = worded_lacks (codes "peer ") (two_words (at, frame)) _ (hear_spelled (at, frame)) refl (two_printable (at, frame) fits)
 event_lacks (Release at salt iface) fits =
-    worded_lacks (codes "release ") _ _ (release_spelled (at, (salt, iface))) refl (on_printable at salt (iface_text iface) fits.0 (iface_printable iface fits.1))
+    worded_lacks (codes "release ") _ _ (release_spelled (at, (salt, iface))) refl
+    (on_printable at salt (iface_text iface) fits.0 (iface_printable iface fits.1))
 event_lacks (Give at salt iface frame) fits =
     worded_lacks (codes "give ") _ _ (give_spelled (at, (salt, (iface, frame)))) refl
     (on_printable at salt _ fits.0 (joined_printable (iface_text iface) (decimal frame) (iface_printable iface fits.1) (decimal_printable frame fits.2)))

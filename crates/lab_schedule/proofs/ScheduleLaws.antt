@@ -47,7 +47,8 @@ no_ifaces : (specs : List IfSpec) → none_of specs ≡ true → specs ≡ []
 no_ifaces [] e = refl
 no_ifaces (spec ∷ specs) e = cc
 
-conf_taken : (head next : Head) (lines : List Line) (text : List ℕ) → AfterHead head lines → conf_more head text ≡ Some next → AfterHead next (lines ++ (codes "c:" ++ text) ∷ [])
+conf_taken : (head next : Head) (lines : List Line) (text : List ℕ) → AfterHead head lines → conf_more head text ≡ Some next
+    → AfterHead next (lines ++ (codes "c:" ++ text) ∷ [])
 conf_taken head next lines text after e =
     let tests = cond_is (none_of head.ifaces && lacks_feed text) (Some (record head { conf = head.conf ++ ended text })) next e in
     let parts = and_parts (none_of head.ifaces) (lacks_feed text) tests.0 in
@@ -63,7 +64,8 @@ conf_taken head next lines text after e =
     } in
     subst (λ h. AfterHead h (lines ++ conf_line text ∷ [])) (some_same tests.1) after_all
 
-iface_taken : (head next : Head) (lines : List Line) (rest : List ℕ) → AfterHead head lines → iface_more head rest ≡ Some next → AfterHead next (lines ++ (codes "if " ++ rest) ∷ [])
+iface_taken : (head next : Head) (lines : List Line) (rest : List ℕ) → AfterHead head lines → iface_more head rest ≡ Some next
+    → AfterHead next (lines ++ (codes "if " ++ rest) ∷ [])
 iface_taken head next lines rest after e =
     let m = mapped (λ spec. record head { ifaces = head.ifaces ++ spec ∷ [] }) (guarded (fits_next head.ifaces) (spec_at rest)) next e in
     let g = guard_passed (fits_next head.ifaces) (spec_at rest) m.value m.was in
@@ -91,7 +93,8 @@ made_of make o next lines e after = let m = mapped make o next e in subst (λ s.
 worded : (next : Reading) (lines : List Line) (line other : Line) → line ≡ other → After next (lines ++ other ∷ []) → After next (lines ++ line ∷ [])
 worded next lines line other same after = subst (λ l. After next (lines ++ l ∷ [])) (sym same) after
 
-pool_taken : (head : Head) (pool : Pool) (lines : List Line) (rest : List ℕ) → AfterHead head lines → pool_at rest ≡ Some pool → AfterPool head pool (lines ++ (codes "pool " ++ rest) ∷ [])
+pool_taken : (head : Head) (pool : Pool) (lines : List Line) (rest : List ℕ) → AfterHead head lines → pool_at rest ≡ Some pool
+    → AfterPool head pool (lines ++ (codes "pool " ++ rest) ∷ [])
 pool_taken head pool lines rest after e =
     let read = pool_reads.sound rest pool e in
     let spelled : codes "pool " ++ rest ≡ pool_text pool = ap (λ t. codes "pool " ++ t) read.0 ∙ sym (pool_spelled pool) in
@@ -337,12 +340,14 @@ conf_lacks : (text : Line) → Lacks 10 text → Lacks 10 (conf_line text)
 conf_lacks text free = lacks-append 10 (codes "c:") text refl free
 
 spec_lacks : (spec : IfSpec) → FitsSpec spec → Lacks 10 (interface_text spec)
-spec_lacks spec fits = subst (Lacks 10) (sym (spec_spelled spec)) (lacks-append 10 (codes "if ") (spec_text spec) refl (no_feed_in (spec_text spec) (spec_printable spec fits)))
+spec_lacks spec fits =
+    subst (Lacks 10) (sym (spec_spelled spec)) (lacks-append 10 (codes "if ") (spec_text spec) refl (no_feed_in (spec_text spec) (spec_printable spec fits)))
 
 start_lacks : (count : ℕ) (begin : Begin) → count ≤ 64 → FitsStart count begin → Lacks 10 (start_text begin)
 start_lacks count begin few fits =
     subst (Lacks 10) (sym (begin_spelled begin))
-    (lacks-append 10 (codes "start ") (begin_words begin) refl (no_feed_in (begin_words begin) (begin_printable count begin few (record { at = fits.at; salt = fits.salt; up = fits.up }))))
+    (lacks-append 10 (codes "start ") (begin_words begin) refl
+    (no_feed_in (begin_words begin) (begin_printable count begin few (record { at = fits.at; salt = fits.salt; up = fits.up }))))
 
 are_lines : (value : Schedule) (lines : List Line) → SpellsSchedule value lines → AreLines lines
 are_lines value lines spells =

@@ -35,7 +35,8 @@ abbrev pub conf_line : (text : List ℕ) → Line
 conf_line text = codes "c:" ++ text
 
 abbrev pub pool_text : Pool → Line
-pool_text pool = codes "pool " ++ ip4_text pool.low ++ codes " " ++ ip4_text pool.high ++ codes " " ++ decimal pool.lease
+pool_text pool =
+    codes "pool " ++ ip4_text pool.low ++ codes " " ++ ip4_text pool.high ++ codes " " ++ decimal pool.lease
 
 -- when, and by which random word
 abbrev pub turn_text : (at salt : ℕ) → List ℕ

@@ -152,7 +152,8 @@ impl Frames {
         text: &mut Vec<u8>,
     ) -> Result<Frames, NoMemory>
         requires { AllByRecursion IsOnInterface (map sending_of sends.items) }
-        ensures frames { IfOk result (λ frames. frames ≡ record self { sent = self.sent ++ map sending_of sends.items }) }
+        ensures frames { IfOk result
+            (λ frames. frames ≡ record self { sent = self.sent ++ map sending_of sends.items }) }
         ensures says { OnOk result
             (Says (client_lines (length self.sent) (map sending_of sends.items)) text.old.items text.new.items) }
     {

@@ -170,7 +170,8 @@ impl Lab {
 
     /// The peer's frame of a number comes in on an interface.
     fn give(self, alloc: Global, given: Given, text: &mut Vec<u8>) -> Result<Lab, NoMemory>
-        ensures lab { IfOk result (λ lab. lab ≡ (lab_step (Give given.at given.salt given.iface given.frame) self).lab) }
+        ensures lab { IfOk result
+            (λ lab. lab ≡ (lab_step (Give given.at given.salt given.iface given.frame) self).lab) }
         ensures says { OnOk result
             (Says
             (lines_of self (lab_step (Give given.at given.salt given.iface given.frame) self)) text.old.items
@@ -254,7 +255,8 @@ impl Lab {
     #[tactic(auto, using(crate::proofs::NumberedFrames::heard_some, crate::proofs::NumberedFrames::heard_none))]
     fn hear(self, alloc: Global, at: u64, frame: u64, text: &mut Vec<u8>) -> Result<Lab, NoMemory>
         ensures lab { IfOk result (λ lab. lab ≡ (lab_step (Hear at frame) self).lab) }
-        ensures says { OnOk result (Says (lines_of self (lab_step (Hear at frame) self)) text.old.items text.new.items) }
+        ensures says { OnOk result
+            (Says (lines_of self (lab_step (Hear at frame) self)) text.old.items text.new.items) }
     {
         match self.frames.sent(frame) {
             Some(bytes) => {

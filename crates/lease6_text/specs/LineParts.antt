@@ -24,7 +24,8 @@ unfoldable pub server_at : List ℕ → Option (List ℕ)
 server_at text = guarded is_duid (hex_at text)
 
 unfoldable pub moment_at : List ℕ → Option (Option ℕ)
-moment_at text = if bytes_eq text (codes "never") then Some None else option_map (λ at. Some at) (number_at MOMENT6_LIMIT text)
+moment_at text =
+    if bytes_eq text (codes "never") then Some None else option_map (λ at. Some at) (number_at MOMENT6_LIMIT text)
 
 -- ---- IAs
 

@@ -292,7 +292,8 @@ impl LeaseState {
     #[tactic(auto, unfolding(crate::specs::LeaseReading::step_at))]
     fn take_body(self, alloc: Global, line: &[u8]) -> Result<LeaseState, LineFault<BadText>>
         ensures taken { IfOk result (λ next. step_at NextLine.Ias (reading_of self) line.now ≡ Some (reading_of next)) }
-        ensures bad { IfErr result (λ fault. Refuses (step_at NextLine.Ias (reading_of self) line.now) (record {}) fault) }
+        ensures bad { IfErr result
+            (λ fault. Refuses (step_at NextLine.Ias (reading_of self) line.now) (record {}) fault) }
     {
         match strip_word(line, b"ia ") {
             Some(rest) => self.begin_ia(rest),

@@ -74,7 +74,8 @@ fn settle<S: Store>(store: &mut S) -> Result<(), SaveFault>
     ensures later { S.faults store.old ≤ S.faults store.new }
     ensures failing { S.failing store.new ≡ S.failing store.old }
     ensures cause { HasStepCause (S.faults store.old) (S.faults store.new) result }
-    ensures step { Steps (S.failing store.old) SaveStep.Settle SettledFiles (S.told store.old) (S.told store.new) result }
+    ensures step { Steps (S.failing store.old) SaveStep.Settle SettledFiles (S.told store.old)
+        (S.told store.new) result }
 {
     match store.settle() {
         Ok(()) => Ok(()),

@@ -3,11 +3,14 @@ use net_types::{BadText, Ip4, Mac, TextFault};
 use std::test::*;
 
 const LEASE: &str =
-    "dhcpcd-lease4 1\ninterface eth0\naddress 10.0.0.50/24\nserver 10.0.0.1\nservermac 02:00:00:00:00:fe\nfirst 100\nlease 3600\nt1 1800\nt2 3150\noption 3 0a000001\noption 6 0a000001\nend\n";
+    "dhcpcd-lease4 1\ninterface eth0\naddress 10.0.0.50/24\nserver 10.0.0.1\nservermac 02:00:00:00:00:fe\n\
+    first 100\nlease 3600\nt1 1800\nt2 3150\noption 3 0a000001\noption 6 0a000001\nend\n";
 
 /// The same lease with its origin.
 const SECOND: &str =
-    "dhcpcd-lease4 2\ninterface eth0\nmac 02:00:00:00:00:01\nconfirmed 200\naddress 10.0.0.50/24\nserver 10.0.0.1\nservermac 02:00:00:00:00:fe\nfirst 100\nlease 3600\nt1 1800\nt2 3150\noption 3 0a000001\noption 6 0a000001\nend\n";
+    "dhcpcd-lease4 2\ninterface eth0\nmac 02:00:00:00:00:01\nconfirmed 200\naddress 10.0.0.50/24\nserver 10.0.0.1\n\
+    servermac 02:00:00:00:00:fe\nfirst 100\nlease 3600\nt1 1800\nt2 3150\noption 3 0a000001\noption 6 0a000001\n\
+    end\n";
 
 #[test]
 fn a_lease_is_printed_as_it_was_read(rt: HostRuntime) -> Result<(), Fail> {

@@ -18,4 +18,5 @@ three_parts old first others last =
 -- the lines before those of the values, these, and the last one
 pub whole_text : (heads values : List Line) → (lines_text heads ++ lines_text values) ++ codes "end\n" ≡ lines_text (heads ++ (values ++ end_line ∷ []))
 whole_text heads values =
-    rw (flat_map-append ended heads (values ++ end_line ∷ []), flat_map-append ended values (end_line ∷ [])) (append_assoc (lines_text heads) (lines_text values) (codes "end\n"))
+    rw (flat_map-append ended heads (values ++ end_line ∷ []), flat_map-append ended values (end_line ∷ []))
+    (append_assoc (lines_text heads) (lines_text values) (codes "end\n"))

@@ -96,7 +96,8 @@ fn append_value(value: &Value, into: &mut Vec<u8>) -> Result<(), NoMemory>
 
 /// Appends the lines of values, which a lease of either family has, or a front of them where memory runs out.
 pub fn append_values(values: &[Value], into: &mut Vec<u8>) -> Result<(), NoMemory>
-    ensures ok { OnOk result (into.new.items ≡ into.old.items ++ lines_text (map option_line (values_content values.now))) }
+    ensures ok { OnOk result
+        (into.new.items ≡ into.old.items ++ lines_text (map option_line (values_content values.now))) }
     ensures err { OnErr result (StandsInFront into.old.items into.new.items) }
 {
     for value in values {

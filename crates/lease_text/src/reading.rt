@@ -327,7 +327,8 @@ impl LeaseState {
     /// The state after a value more, or after the last line.
     #[tactic(auto, unfolding(crate::specs::LeaseReading::step_at))]
     fn take_value(self, alloc: Global, line: &[u8]) -> Result<LeaseState, LineFault<BadText>>
-        ensures taken { IfOk result (λ next. step_at LeaseLine.Values (reading_of self) line.now ≡ Some (reading_of next)) }
+        ensures taken { IfOk result
+            (λ next. step_at LeaseLine.Values (reading_of self) line.now ≡ Some (reading_of next)) }
         ensures bad { IfErr result
             (λ fault. Refuses (step_at LeaseLine.Values (reading_of self) line.now) (record {}) fault) }
     {

@@ -14,10 +14,12 @@ path_rule id = record (place_rule id) { parser = Some NonEmptyString }
 
 -- the last words, 1 to 64 of them
 abbrev pub interfaces_rule : Rule
-interfaces_rule = record (place_rule (codes "IFACE")) { range = Some (record { start_inclusive = 1; end_inclusive = 64 }) }
+interfaces_rule =
+    record (place_rule (codes "IFACE")) { range = Some (record { start_inclusive = 1; end_inclusive = 64 }) }
 
 abbrev pub live_command : App
 live_command =
     with_rule (with_rule (with_rule (with_rule (with_rule
     (on_top (λ shape. record shape { disable_help_flag = true }) (new_app (codes "live")))
-    (place_rule (codes "PORT"))) (place_rule (codes "PEER"))) (path_rule (codes "DIR"))) (path_rule (codes "SCRIPT"))) interfaces_rule
+    (place_rule (codes "PORT"))) (place_rule (codes "PEER"))) (path_rule (codes "DIR"))) (path_rule (codes "SCRIPT")))
+    interfaces_rule

@@ -46,7 +46,9 @@ IsLiveRead words None = (specs : List IfSpec) → AsksLive words specs → ⊥
 
 -- these are the very words, and the ports are unlike
 pub record SaysLive (words : List (List ℕ)) (live : LiveWords) : Type 0 where
-  pub says : words ≡ codes "live" ∷ decimal live.ports.own ∷ decimal live.ports.peer ∷ live.folder.now ∷ live.script.now ∷ map iface_word live.interfaces
+  pub says : words
+      ≡ codes "live" ∷ decimal live.ports.own ∷ decimal live.ports.peer ∷ live.folder.now ∷ live.script.now
+      ∷ map iface_word live.interfaces
   pub port_is : IsPort live.ports.own
   pub peer_is : IsPort live.ports.peer
   pub unlike : live.ports.own ≢ live.ports.peer

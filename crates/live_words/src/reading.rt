@@ -68,7 +68,8 @@ fn matches_of<'a>(alloc: Global, words: &'a [String]) -> Result<Option<ArgMatche
 
 /// What the words say at their places.
 fn said_by<'a>(matches: &ArgMatches<'a>) -> Option<LiveWords<'a>>
-    requires few { IfSome (option_map raw_values (matched_of (found_of matches.now) (codes "IFACE"))) (λ words. length words ≤ 64) }
+    requires few { IfSome (option_map raw_values (matched_of (found_of matches.now) (codes "IFACE")))
+        (λ words. length words ≤ 64) }
     ensures { option_map said_of result ≡ said_in (found_of matches.now) }
 {
     let ports = ports_of(matches.get_str(PORT)?, matches.get_str(PEER)?)?;

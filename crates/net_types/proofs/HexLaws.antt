@@ -238,7 +238,8 @@ hex_sound : (text bs : List ℕ) → hex_at text ≡ Some bs → (text ≡ hex_t
 unfolding hex_at
 hex_sound [] bs e = cc
 hex_sound (c ∷ cs) bs e =
-    elim (bytes_eq (c ∷ cs) (codes "-")) as (λ b. bytes_eq (c ∷ cs) (codes "-") ≡ b → cond b (Some []) (pairs_at (c ∷ cs)) ≡ Some bs → (c ∷ cs ≡ hex_text bs) × AreBytes bs) [
+    elim (bytes_eq (c ∷ cs) (codes "-")) as
+    (λ b. bytes_eq (c ∷ cs) (codes "-") ≡ b → cond b (Some []) (pairs_at (c ∷ cs)) ≡ Some bs → (c ∷ cs ≡ hex_text bs) × AreBytes bs) [
       | true ↦ λ t q.
           let none : [] ≡ bs = some_same q in
           ((bytes_eq-Decides _ _).0 t ∙ sym hex_text_none ∙ ap hex_text none, subst AreBytes none no_bytes)

@@ -251,7 +251,9 @@ listed_sound : (text : List ℕ) (ls : List Listed) → list_of_listed_at text �
     → (text ≡ lines.list_text (listed_numbers ls)) × AllByRecursion FitsListed ls
 unfolding list_of_listed_at
 listed_sound text ls e =
-    elim (bytes_eq text (codes "-")) as (λ b. bytes_eq text (codes "-") ≡ b → cond b (Some []) (list_at 44 listed_at text) ≡ Some ls → (text ≡ lines.list_text (listed_numbers ls)) × AllByRecursion FitsListed ls) [
+    elim (bytes_eq text (codes "-")) as
+    (λ b. bytes_eq text (codes "-") ≡ b → cond b (Some []) (list_at 44 listed_at text) ≡ Some ls
+    → (text ≡ lines.list_text (listed_numbers ls)) × AllByRecursion FitsListed ls) [
       | true ↦ λ t q.
           let none : [] ≡ ls = some_same q in
           ((bytes_eq-Decides _ _).0 t ∙ ap (λ xs. lines.list_text (listed_numbers xs)) none, subst (AllByRecursion FitsListed) none tt)
@@ -318,7 +320,10 @@ pub record FitsBegin (count : ℕ) (begin : Begin) : Type 0 where
   pub salt : begin.salt < 2 ^ 64
   pub up : begin.up < 2 ^ count
 
-begin_steps : (count : ℕ) (text : List ℕ) → begin_at count text ≡ option_map (λ (p : Start). record { at = p.0; salt = p.1.0; up = p.1.1 }) (pair_at 32 moment_at (pair_at 32 salt_at (after_word (codes "up ") (up_at count))) text)
+begin_steps : (count : ℕ) (text : List ℕ)
+    → begin_at count text
+    ≡ option_map (λ (p : Start). record { at = p.0; salt = p.1.0; up = p.1.1 })
+    (pair_at 32 moment_at (pair_at 32 salt_at (after_word (codes "up ") (up_at count))) text)
 unfolding begin_at
 begin_steps count text = simp steps_assoc
 
@@ -359,6 +364,7 @@ up_printable count up few small =
 
 pub begin_printable : (count : ℕ) (begin : Begin) → count ≤ 64 → FitsBegin count begin → IsPrintable (begin_words begin)
 begin_printable count begin few fits =
-    joined_printable (decimal begin.at) (decimal begin.salt ++ 32 ∷ (codes "up " ++ up_text begin.up)) (let small = fits.at in decimal_printable begin.at (omega arith))
+    joined_printable (decimal begin.at) (decimal begin.salt ++ 32 ∷ (codes "up " ++ up_text begin.up))
+    (let small = fits.at in decimal_printable begin.at (omega arith))
     (joined_printable (decimal begin.salt) (codes "up " ++ up_text begin.up) (decimal_printable begin.salt fits.salt)
     (only-append is_printable (codes "up ") (up_text begin.up) refl (up_printable count begin.up few fits.up)))

@@ -43,7 +43,8 @@ AreCalls text calls = (text ≡ calls_text calls) × FitsCalls calls
 calls_sound : (text : List ℕ) (calls : Option ℕ) → calls_at text ≡ Some calls → AreCalls text calls
 unfolding calls_at
 calls_sound text calls e =
-    elim (bytes_eq text (codes "-")) as (λ b. bytes_eq text (codes "-") ≡ b → cond b (Some None) (option_map Some (number_at (2 ^ 64) text)) ≡ Some calls → AreCalls text calls) [
+    elim (bytes_eq text (codes "-")) as
+    (λ b. bytes_eq text (codes "-") ≡ b → cond b (Some None) (option_map Some (number_at (2 ^ 64) text)) ≡ Some calls → AreCalls text calls) [
       | true ↦ λ t q. subst (AreCalls text) (some_same q) ((bytes_eq-Decides _ _).0 t, tt)
       | false ↦ λ t q.
           let m = mapped Some (number_at (2 ^ 64) text) calls q in
@@ -78,7 +79,8 @@ new_sound text kind e =
 kind_sound : (text : List ℕ) (kind : CrashKind) → kind_at text ≡ Some kind → text ≡ kind_text kind
 unfolding kind_at
 kind_sound text kind e =
-    elim (bytes_eq text (codes "old")) as (λ b. bytes_eq text (codes "old") ≡ b → cond b (Some Old) (cond (bytes_eq text (codes "new")) (Some New) None) ≡ Some kind → text ≡ kind_text kind) [
+    elim (bytes_eq text (codes "old")) as
+    (λ b. bytes_eq text (codes "old") ≡ b → cond b (Some Old) (cond (bytes_eq text (codes "new")) (Some New) None) ≡ Some kind → text ≡ kind_text kind) [
       | true ↦ λ t q. (bytes_eq-Decides _ _).0 t ∙ ap kind_text (some_same q)
       | false ↦ λ t q. new_sound text kind q
     ] refl e

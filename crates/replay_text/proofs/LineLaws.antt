@@ -152,7 +152,8 @@ down_sound text x e =
 switch_sound : (text : List ℕ) (x : Bool) → switch_at text ≡ Some x → text ≡ carrier_text x
 unfolding switch_at
 switch_sound text x e =
-    elim (bytes_eq text (codes "up")) as (λ b. bytes_eq text (codes "up") ≡ b → cond b (Some true) (cond (bytes_eq text (codes "down")) (Some false) None) ≡ Some x → text ≡ carrier_text x) [
+    elim (bytes_eq text (codes "up")) as
+    (λ b. bytes_eq text (codes "up") ≡ b → cond b (Some true) (cond (bytes_eq text (codes "down")) (Some false) None) ≡ Some x → text ≡ carrier_text x) [
       | true ↦ λ t q. (bytes_eq-Decides _ _).0 t ∙ ap carrier_text (some_same q)
       | false ↦ λ t q. down_sound text x q
     ] refl e
@@ -256,10 +257,12 @@ input_chosen (Frame iface len) bytes fits one =
     (part_chosen inputs came_words 0 (codes "frame ") framed p framed_reads refl (frame_spelled p) (fits.0, (frame.octets, le-leb _ _ frame.room)))
 input_chosen (Carrier iface up) bytes fits one =
     let p : Switch = (record { number = iface }, up) in
-    plain_input (Carrier iface up) bytes fits.1 (part_chosen inputs came_words 3 (codes "carrier ") carried p switches_reads refl (carrier_spelled p) (fits.0, tt))
+    plain_input (Carrier iface up) bytes fits.1
+    (part_chosen inputs came_words 3 (codes "carrier ") carried p switches_reads refl (carrier_spelled p) (fits.0, tt))
 input_chosen (Duplicate iface addr) bytes fits one = absurd one
 input_chosen (Release iface) bytes fits one =
-    plain_input (Release iface) bytes fits.1 (part_chosen inputs came_words 4 (codes "release ") released (record { number = iface }) iface_reads refl refl fits.0)
+    plain_input (Release iface) bytes fits.1
+    (part_chosen inputs came_words 4 (codes "release ") released (record { number = iface }) iface_reads refl refl fits.0)
 input_chosen (Rebind iface) bytes fits one =
     plain_input (Rebind iface) bytes fits.1 (part_chosen inputs came_words 5 (codes "rebind ") rebound (record { number = iface }) iface_reads refl refl fits.0)
 input_chosen Stop bytes fits one =
@@ -360,7 +363,8 @@ input_apart text came one = ap (strip_word (codes "dup ")) one.0 ∙ event_apart
 
 came_finds : Finds IsCame came_at
 unfolding came_at
-came_finds = same_finds IsCame came_to (λ text came is. came_from text came.0 came.1 is) (choice_finds (codes "dup ") duplicate_finds (one_text input_reads) input_apart)
+came_finds =
+    same_finds IsCame came_to (λ text came is. came_from text came.0 came.1 is) (choice_finds (codes "dup ") duplicate_finds (one_text input_reads) input_apart)
 
 up_printable : (up : Bool) → IsPrintable (carrier_text up)
 up_printable true = refl

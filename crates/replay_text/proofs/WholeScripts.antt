@@ -294,7 +294,8 @@ crash_step read past life (Some crash) fits =
     (word_line (with_lives read past (Some (life_so_far life life.turns))) (crash_text crash) Crash (crash_words crash)
     (with_lives read past (Some (whole_life (record life { crash = Some crash }))))
     (crash_spelled crash) (printed_text Crash (crash_words crash) (crash_printable crash fits)) refl
-    (ap (option_map (λ c. with_last (with_lives read past (Some (life_so_far life life.turns))) (with_crash c))) ((word_reads (codes " ") crash_reads).whole crash fits)))
+    (ap (option_map (λ c. with_last (with_lives read past (Some (life_so_far life life.turns))) (with_crash c)))
+    ((word_reads (codes " ") crash_reads).whole crash fits)))
 
 life_run : (read : LinesRead) (past : List LifeScript) (last : Option LifeRead) (lines : List Line) (life : LifeScript) → SpellsLife lines life
     → length read.ifaces ≤ 64 → may_begin last ≡ true → FitsLife (length read.ifaces) life

@@ -14,7 +14,9 @@ abbrev pub ended_at : List ℕ → Option (Option Poll)
 ended_at rest = option_map (λ status. Some (Ended status)) (number_at 256 rest)
 
 abbrev pub answers : Choices (Option Poll)
-answers = (codes "run", lone_answer_at (Some Running)) ∷ (codes "ended ", ended_at) ∷ (codes "failed", lone_answer_at None) ∷ []
+answers =
+    (codes "run", lone_answer_at (Some Running)) ∷ (codes "ended ", ended_at) ∷ (codes "failed", lone_answer_at None)
+    ∷ []
 
 unfoldable pub poll_at : List ℕ → Option (Option Poll)
 poll_at text = choose_at answers text

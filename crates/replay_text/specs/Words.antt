@@ -51,4 +51,5 @@ word_at line = choose_at words line
 
 -- A line of the configuration has any bytes but a line feed; any other one is printable ASCII.
 unfoldable pub is_text : Line → Bool
-is_text line = if is_some (strip_word (codes "c:") line) then list_all (λ b. not (b == 10)) line else list_all is_printable line
+is_text line =
+    if is_some (strip_word (codes "c:") line) then list_all (λ b. not (b == 10)) line else list_all is_printable line

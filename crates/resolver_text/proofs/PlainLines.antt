@@ -118,7 +118,9 @@ server_lacks name (V4 ip) named fits = ip4_lacks ip 10 fits refl
 server_lacks name (V6 ip) named fits = by_case (is_link_local ip)
   where
     by_case : (b : Bool) → LacksFeed (cond b (zoned_text ip name) (ip6_text ip))
-    by_case true = lacks-append 10 (ip6_text ip ++ codes "%") (name_text name) (lacks-append 10 (ip6_text ip) (codes "%") (ip6_lacks ip 10 refl) refl) (name_lacks name 10 named refl)
+    by_case true =
+        lacks-append 10 (ip6_text ip ++ codes "%") (name_text name) (lacks-append 10 (ip6_text ip) (codes "%") (ip6_lacks ip 10 refl) refl)
+        (name_lacks name 10 named refl)
     by_case false = ip6_lacks ip 10 refl
 
 record IsServerText (text : List ℕ) : Type 0 where
@@ -145,13 +147,18 @@ names_plain (name ∷ names) all = lacks-append 10 (32 ∷ name) (flat_map (λ n
 search_plain : (names : List (List ℕ)) → AllByRecursion (λ name. IsTrue (is_name name)) names → AllByRecursion IsPlain (search_lines names)
 search_plain [] all = tt
 search_plain (name ∷ names) all =
-    let some : name ∷ names ≢ [] = λ e. absurd cc in
-    ((lacks-append 10 (codes "search") (flat_map (λ name. 32 ∷ name) (name ∷ names)) refl (names_plain (name ∷ names) all), Searches (name ∷ names) some all), tt)
+    let some : name ∷ names ≢ [] = λ e. absurd cc in (
+      (lacks-append 10 (codes "search") (flat_map (λ name. 32 ∷ name) (name ∷ names)) refl (names_plain (name ∷ names) all), Searches (name ∷ names) some all),
+      tt,
+    )
 
 server_plain : (text : List ℕ) → IsServerText text → IsPlain (server_line text)
 server_plain text is =
-    let whole : IsPlain (server_line (server_text is.name is.server)) =
-    (lacks-append 10 (codes "nameserver ") (server_text is.name is.server) refl (server_lacks is.name is.server is.named is.fits), Asks is.name is.server is.named is.fits) in
+    let whole : IsPlain (server_line (server_text is.name is.server)) = (
+      lacks-append 10 (codes "nameserver ") (server_text is.name is.server) refl (server_lacks is.name is.server is.named is.fits),
+      Asks is.name is.server is.named is.fits,
+    )
+    in
     subst (λ (t : List ℕ). IsPlain (server_line t)) (sym is.spelled) whole
 
 module _ (parts : List PartContent) where

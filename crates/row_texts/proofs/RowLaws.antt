@@ -78,7 +78,8 @@ metric_reads = number_reads (2 ^ 32) (omega arith)
 
 -- ---- nets and gateways of either family
 
-net6_lacks : (byte : ℕ) (text : List ℕ) (net : Net6) → SpellsNet6 text net → is_group_byte byte ≡ false → Lacks byte (codes "/") → is_ascii_digit byte ≡ false → Lacks byte text
+net6_lacks : (byte : ℕ) (text : List ℕ) (net : Net6) → SpellsNet6 text net → is_group_byte byte ≡ false → Lacks byte (codes "/") → is_ascii_digit byte ≡ false
+    → Lacks byte text
 net6_lacks byte text net spells group slash digit =
     let small : net.len < 2 ^ 64 = let most = spells.prefix in omega arith in
     subst (Lacks byte) (sym spells.spelled)
@@ -224,7 +225,8 @@ tail_to text tail (inl after) =
     subst (SpellsTail text) made.makes (record { path = []; spelled = spelled; leads = refl; way = tt; metric = made.spells.1 })
 tail_to text tail (inr (inl after)) =
     let made = after.spells in
-    let spelled : 32 ∷ text ≡ codes " reject" ++ (codes " metric " ++ decimal made.value) = ap (λ t. 32 ∷ t) (after.spelled ∙ ap (λ w. codes "reject metric " ++ w) made.spells.0) in
+    let spelled : 32 ∷ text ≡ codes " reject" ++ (codes " metric " ++ decimal made.value) =
+    ap (λ t. 32 ∷ t) (after.spelled ∙ ap (λ w. codes "reject metric " ++ w) made.spells.0) in
     subst (SpellsTail text) made.makes (record { path = codes " reject"; spelled = spelled; leads = refl; way = tt; metric = made.spells.1 })
 tail_to text tail (inr (inr after)) =
     let gate = after.spells in
@@ -242,7 +244,8 @@ tail_to text tail (inr (inr after)) =
       metric = number.spells.1;
     }
 
-gate_from : (text front : List ℕ) (way : Via) (m : ℕ) → 32 ∷ text ≡ (codes " via " ++ front) ++ (codes " metric " ++ decimal m) → SpellsGateway front way → m < 2 ^ 32 → AnyTail text (way, m)
+gate_from : (text front : List ℕ) (way : Via) (m : ℕ) → 32 ∷ text ≡ (codes " via " ++ front) ++ (codes " metric " ++ decimal m) → SpellsGateway front way
+    → m < 2 ^ 32 → AnyTail text (way, m)
 gate_from text front way m spelled spells small =
     let metric : After (codes "metric ") SpellsMetric (codes "metric " ++ decimal m) m = record { words = decimal m; spelled = refl; spells = (refl, small) } in
     inr (inr (record {
@@ -256,7 +259,8 @@ tail_from text (OnLink, m) spells =
     let spelled : 32 ∷ text ≡ codes " metric " ++ decimal m = spells.spelled ∙ ap (λ p. p ++ (codes " metric " ++ decimal m)) spells.leads in
     inl (record { words = decimal m; spelled = ap (drop 1) spelled; spells = record { value = m; makes = refl; spells = (refl, spells.metric) } })
 tail_from text (Reject, m) spells =
-    let spelled : 32 ∷ text ≡ codes " reject" ++ (codes " metric " ++ decimal m) = spells.spelled ∙ ap (λ p. p ++ (codes " metric " ++ decimal m)) spells.leads in
+    let spelled : 32 ∷ text ≡ codes " reject" ++ (codes " metric " ++ decimal m) =
+    spells.spelled ∙ ap (λ p. p ++ (codes " metric " ++ decimal m)) spells.leads in
     inr (inl (record { words = decimal m; spelled = ap (drop 1) spelled; spells = record { value = m; makes = refl; spells = (refl, spells.metric) } }))
 tail_from text (Gate4 ip, m) spells =
     gate_from text (ip4_text ip) (Gate4 ip) m (spells.spelled ∙ ap (λ p. p ++ (codes " metric " ++ decimal m)) spells.leads) (refl, spells.way) spells.metric
@@ -291,7 +295,8 @@ tail_finds : Finds SpellsTail tail_at
 unfolding tail_at
 tail_finds =
     same_finds SpellsTail tail_to tail_from
-    (choice_finds (codes "metric ") link_finds (choice_finds (codes "reject metric ") reject_finds (word_finds (codes "via ") gate_finds) gate_apart) rest_apart)
+    (choice_finds (codes "metric ") link_finds
+    (choice_finds (codes "reject metric ") reject_finds (word_finds (codes "via ") gate_finds) gate_apart) rest_apart)
 
 -- ---- addresses
 
@@ -447,7 +452,8 @@ row_from text (Route iface dest way metric) is =
       spells = record { value = (iface, (dest, (way, metric))); makes = refl; spells = (words, and_from _ _ (is_network_true dest is.1.2) leads.1) };
     })
 
-route_apart : (text : List ℕ) (row : HostRow) → After (codes "route ") (Made route_row (Tested route_test RouteWords)) text row → strip_word (codes "addr ") text ≡ None
+route_apart : (text : List ℕ) (row : HostRow) → After (codes "route ") (Made route_row (Tested route_test RouteWords)) text row
+    → strip_word (codes "addr ") text ≡ None
 route_apart text row after = word_apart (codes "addr ") (codes "route ") text row after refl
 
 pub row_finds : Finds IsSpelledRow row_at

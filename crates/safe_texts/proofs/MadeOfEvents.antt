@@ -198,7 +198,9 @@ module _ (situation : SituationContent) (fits : FitsName situation.interface.nam
   job_safe : (variable : JobVariable) → IsSafe (job_said situation variable)
   job_safe job.Interface = of_job (job_word job.Interface) (name_text situation.interface.name) (One grammar.InterfaceName) (0, omega arith, refl) fits.spelled
   job_safe job.Reason = of_job (job_word job.Reason) (reason_word situation.reason) (One (OneOf REASONS)) (1, omega arith, refl) (reason_made situation.reason)
-  job_safe job.Carrier = of_job (job_word job.Carrier) (carrier_word situation.up) (One (OneOf (codes "up" ∷ codes "down" ∷ []))) (2, omega arith, refl) (carrier_made situation.up)
+  job_safe job.Carrier =
+      of_job (job_word job.Carrier) (carrier_word situation.up) (One (OneOf (codes "up" ∷ codes "down" ∷ []))) (2, omega arith, refl)
+      (carrier_made situation.up)
   job_safe job.Metric = of_job (job_word job.Metric) (decimal situation.metric) (One (Number (2 ^ 32))) (3, omega arith, refl) (decimal_made situation.metric)
 
   made_safe : AreSafe (made_variables situation)

@@ -14,7 +14,8 @@ use Rattle.safe_texts.specs.Grammars.{Form, HasForm, One, Several, OneOf, Number
 -- the reasons of jobs
 abbrev pub REASONS : List (List ℕ)
 REASONS =
-    codes "PREINIT" ∷ codes "CARRIER" ∷ codes "NOCARRIER" ∷ codes "STATIC" ∷ codes "BOUND" ∷ codes "REBOOT" ∷ codes "RENEW"
+    codes "PREINIT" ∷ codes "CARRIER" ∷ codes "NOCARRIER" ∷ codes "STATIC" ∷ codes "BOUND" ∷ codes "REBOOT"
+    ∷ codes "RENEW"
     ∷ codes "REBIND" ∷ codes "NAK" ∷ codes "EXPIRE" ∷ codes "TIMEOUT" ∷ codes "IPV4LL" ∷ codes "STOP" ∷ codes "STOP6"
     ∷ codes "STOPPED" ∷ codes "BOUND6" ∷ codes "REBOOT6" ∷ codes "RENEW6" ∷ codes "REBIND6" ∷ codes "EXPIRE6"
     ∷ codes "DELEGATED6" ∷ []

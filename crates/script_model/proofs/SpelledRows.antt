@@ -88,7 +88,8 @@ pub spelled_printable : (text : List ℕ) (row : HostRow) → IsRow row → Spel
 spelled_printable text (Addr iface net) fits spells =
     subst IsPrintable (sym spells.spelled)
     (printable_word (codes "addr " ++ decimal iface.number ++ codes " ") spells.address
-    (printable_word (codes "addr " ++ decimal iface.number) (codes " ") (printable_word (codes "addr ") (decimal iface.number) refl (iface_printable iface.number fits.0)) refl)
+    (printable_word (codes "addr " ++ decimal iface.number) (codes " ")
+    (printable_word (codes "addr ") (decimal iface.number) refl (iface_printable iface.number fits.0)) refl)
     (spelled_net_printable spells.address net fits.1 spells.spells))
 spelled_printable text (Route iface dest way metric) fits spells =
     let small : metric < 2 ^ 64 = let below : metric < 2 ^ 32 = fits.4 in omega arith in
@@ -98,7 +99,8 @@ spelled_printable text (Route iface dest way metric) fits spells =
     (printable_word (front ++ spells.network ++ spells.path) (codes " metric ")
     (printable_word (front ++ spells.network) spells.path
     (printable_word front spells.network
-    (printable_word (codes "route " ++ decimal iface.number) (codes " ") (printable_word (codes "route ") (decimal iface.number) refl (iface_printable iface.number fits.0)) refl)
+    (printable_word (codes "route " ++ decimal iface.number) (codes " ")
+    (printable_word (codes "route ") (decimal iface.number) refl (iface_printable iface.number fits.0)) refl)
     (spelled_net_printable spells.network dest fits.1 spells.spells))
     (spelled_way_printable spells.path dest way fits.3 spells.leads)) refl)
     (decimal_printable metric small))

@@ -84,13 +84,16 @@ event_text Quiet bytes = codes "quiet"
 event_text End bytes = codes "end"
 
 abbrev pub start_text : Begin → List ℕ
-start_text begin = codes "start " ++ decimal begin.at ++ codes " " ++ decimal begin.salt ++ codes " up " ++ up_text begin.up
+start_text begin =
+    codes "start " ++ decimal begin.at ++ codes " " ++ decimal begin.salt ++ codes " up " ++ up_text begin.up
 
 abbrev pub turn_text : ℕ → ℕ → Event → List ℕ → List ℕ
-turn_text at salt event bytes = codes "turn " ++ decimal at ++ codes " " ++ decimal salt ++ codes " " ++ event_text event bytes
+turn_text at salt event bytes =
+    codes "turn " ++ decimal at ++ codes " " ++ decimal salt ++ codes " " ++ event_text event bytes
 
 abbrev pub interface_text : IfSpec → List ℕ
-interface_text spec = codes "if " ++ decimal spec.index.number ++ codes " " ++ name_text spec.name ++ codes " " ++ mac_text spec.mac
+interface_text spec =
+    codes "if " ++ decimal spec.index.number ++ codes " " ++ name_text spec.name ++ codes " " ++ mac_text spec.mac
 
 abbrev pub outcome_text : Bool → List ℕ
 outcome_text true = codes "ok"
@@ -124,7 +127,8 @@ line_words (Life number) = codes "life " ++ decimal number
 line_words (Start begin) = start_text begin
 line_words (Asides names) = codes "store list ok" ++ flat_map (λ name. codes " " ++ name) names
 line_words AsidesFailed = codes "store list failed"
-line_words (Wrote name bytes done) = codes "store write " ++ name ++ codes " " ++ hex_text bytes ++ codes " " ++ outcome_text done
+line_words (Wrote name bytes done) =
+    codes "store write " ++ name ++ codes " " ++ hex_text bytes ++ codes " " ++ outcome_text done
 line_words (Synced name done) = codes "store sync " ++ name ++ codes " " ++ outcome_text done
 line_words (Renamed name done) = codes "store rename " ++ name ++ codes " " ++ outcome_text done
 line_words (Removed name done) = codes "store remove " ++ name ++ codes " " ++ outcome_text done
@@ -134,9 +138,11 @@ line_words (Turn at salt event bytes) = turn_text at salt event bytes
 line_words (HookPolled number answer) = codes "hook poll " ++ decimal number ++ codes " " ++ poll_text answer
 line_words (HookAbandoned number) = codes "hook abandon " ++ decimal number
 line_words (HookDropped number reason name) = codes "hook drop " ++ job_text number reason name
-line_words (HookStarted number reason name done) = codes "hook start " ++ job_text number reason name ++ codes " " ++ outcome_text done
+line_words (HookStarted number reason name done) =
+    codes "hook start " ++ job_text number reason name ++ codes " " ++ outcome_text done
 line_words (Variable name value) = codes "var " ++ name ++ codes "=" ++ value
-line_words (Send iface bytes taken) = codes "send " ++ decimal iface.number ++ codes " " ++ hex_text bytes ++ codes " " ++ outcome_text taken
+line_words (Send iface bytes taken) =
+    codes "send " ++ decimal iface.number ++ codes " " ++ hex_text bytes ++ codes " " ++ outcome_text taken
 line_words (HostListed count) = codes "host list ok " ++ decimal count
 line_words (Row row) = codes "row " ++ row_text row
 line_words HostListFailed = codes "host list failed"

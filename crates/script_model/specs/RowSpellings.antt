@@ -37,7 +37,8 @@ pub record SpellsAddr (text : List ℕ) (iface : IfIndex) (net : Net) : Type 0 w
 pub record SpellsRoute (text : List ℕ) (iface : IfIndex) (dest : Net) (way : Via) (metric : ℕ) : Type 0 where
   pub network : List ℕ
   pub path : List ℕ
-  pub spelled : text ≡ codes "route " ++ decimal iface.number ++ codes " " ++ network ++ path ++ codes " metric " ++ decimal metric
+  pub spelled : text
+      ≡ codes "route " ++ decimal iface.number ++ codes " " ++ network ++ path ++ codes " metric " ++ decimal metric
   pub spells : SpellsNet network dest
   pub leads : SpellsWay path way
 

@@ -20,5 +20,6 @@ SpellsEvent text event bytes = text ≡ event_text event bytes
 
 pub record SpellsGiven (text : List ℕ) (given : Given) : Type 0 where
   pub event : List ℕ
-  pub spelled : text ≡ codes "turn " ++ decimal given.wake.at ++ codes " " ++ decimal given.wake.salt ++ codes " " ++ event
+  pub spelled : text
+      ≡ codes "turn " ++ decimal given.wake.at ++ codes " " ++ decimal given.wake.salt ++ codes " " ++ event
   pub spells : SpellsEvent event given.wake.event given.bytes

@@ -169,7 +169,8 @@ fn a_stopped_life(rt: HostRuntime) -> Result<(), Fail> {
 #[test]
 fn answers_of_hooks(rt: HostRuntime) -> Result<(), Fail> {
     let text =
-        b"dhcpcd-script 1\nfail hooks 2\nfail link 1\nhook run\nhook ended 255\nhook failed\nhook ended 0\nstart 0 0 up -\n";
+        b"dhcpcd-script 1\nfail hooks 2\nfail link 1\nhook run\nhook ended 255\nhook failed\nhook ended 0\n\
+        start 0 0 up -\n";
     let script = read_script(rt.alloc(), text)?;
     let fail = FailLine {
         device: FailDevice::Hooks,

@@ -12,8 +12,10 @@ ghost use Rattle.server_data6.specs.ReadBack.{FitsReply6, FitServers, reply6_con
 /// The bytes of an Advertise or a Reply are read as that message: its fields, the IAs that it gives with T1, T2 and the
 /// lifetimes of each item, and its DNS servers.
 pub fn replies6_are_read_back()
-    ensures message { (reply : Reply6) → FitsReply6 reply → message6_in (reply6_text reply) ≡ Some (reply6_content reply) }
-    ensures ias { (reply : Reply6) → FitsReply6 reply → ias_in (options_area (reply6_text reply)) ≡ map ia_given reply.ias }
+    ensures message { (reply : Reply6) → FitsReply6 reply
+        → message6_in (reply6_text reply) ≡ Some (reply6_content reply) }
+    ensures ias { (reply : Reply6) → FitsReply6 reply
+        → ias_in (options_area (reply6_text reply)) ≡ map ia_given reply.ias }
     ensures servers { (first : Ip6) (others : List Ip6) → FitServers (first ∷ others)
         → dns6_in (servers_text (first ∷ others)) ≡ Some (first ∷ others) }
 {}

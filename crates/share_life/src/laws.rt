@@ -18,6 +18,7 @@ pub fn four_messages_give_a_share()
     ensures made { AreMade managed opens.life turns }
     ensures shown { shown_of opens turns ≡ shown opening three_turns }
     ensures wanted { has_row (rows_of (life_after opens.life turns).client) (Addr downstream shared) ≡ true }
-    ensures held { has_row (life_run managed specs devices coming).world.host.told.rows (Addr downstream shared) ≡ true }
+    ensures held { has_row (life_run managed specs devices coming).world.host.told.rows (Addr downstream shared)
+        ≡ true }
     ensures basis { HasShareBasis managed specs opens turns downstream shared }
 {}

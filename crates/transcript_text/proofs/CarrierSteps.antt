@@ -74,5 +74,6 @@ written_all up old now some i e w = let last : WrittenTo up old now some 65 = rw
 pub all_with_some : (up : ℕ) (old now : List ℕ) (some : Bool) (i : ℕ) → some ≡ true → i ≡ 65 → WrittenTo up old now some i → now ≡ old ++ up_text up
 all_with_some up old now some i is e w = let all = rw is at (written_all up old now some i e w) in sym (append-nil now) ∙ sym all
 
-pub all_with_none : (up : ℕ) (old now new : List ℕ) (some : Bool) (i : ℕ) → some ≡ false → i ≡ 65 → new ≡ now ++ codes "-" → WrittenTo up old now some i → new ≡ old ++ up_text up
+pub all_with_none : (up : ℕ) (old now new : List ℕ) (some : Bool) (i : ℕ) → some ≡ false → i ≡ 65 → new ≡ now ++ codes "-" → WrittenTo up old now some i
+    → new ≡ old ++ up_text up
 all_with_none up old now new some i is e text w = let all = rw is at (written_all up old now some i e w) in text ∙ sym all

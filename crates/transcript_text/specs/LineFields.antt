@@ -123,7 +123,8 @@ poll_field = record {
   text = poll_text;
   Fits = FitsPoll;
   at = told (codes "run") (Some Running)
-      (told (codes "failed") None (λ text. option_map (λ n. Some (Ended n)) (after_word (codes "ended ") index_field.at text)));
+      (told (codes "failed") None
+      (λ text. option_map (λ n. Some (Ended n)) (after_word (codes "ended ") index_field.at text)));
 }
 
 abbrev pub moment_field : Field (Option ℕ)

@@ -210,7 +210,8 @@ pub(crate) fn answer_of(
     ensures memory { OnErr result
         (has_long_value (arrival_of arrival.now).message.instances (settings_content set.now).required ≡ true) }
     ensures awaited { OnErr result (is_awaited (settings_content set.now) (arrival_of arrival.now) state ≡ true) }
-    ensures answer { IfOk result (λ answer. answer ≡ answer_of (settings_content set.now) (arrival_of arrival.now) state) }
+    ensures answer { IfOk result
+        (λ answer. answer ≡ answer_of (settings_content set.now) (arrival_of arrival.now) state) }
 {
     match state {
         State4::Selecting { xid, .. } => match answering(set, xid, arrival) {

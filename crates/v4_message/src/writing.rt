@@ -206,7 +206,8 @@ pub fn write4(alloc: Global, said: &Said4, ask: &Ask4) -> Result<Vec<u8>, NoMemo
     ensures text { IfOk result (λ bytes. bytes.items ≡ padded (message_text said.now (ask_content ask.now))) }
     // Read again, they hold exactly those options.
     ensures whole { IfOk result (λ bytes. malformed_place bytes.items ≡ None) }
-    ensures options { IfOk result (λ bytes. message_instances bytes.items ≡ said_options said.now (ask_content ask.now)) }
+    ensures options { IfOk result
+        (λ bytes. message_instances bytes.items ≡ said_options said.now (ask_content ask.now)) }
     // They fit the largest datagram.
     ensures most { IfOk result (λ bytes. length bytes.items ≤ 1472) }
 {

@@ -108,7 +108,8 @@ fn overload_of(value: &[u8]) -> Overload
 /// the place of a malformed option.
 pub(crate) fn check_area(area: &[u8], begins: usize) -> Result<Overload, Malformed>
     requires { begins + length area.now < 2 ^ 64 }
-    ensures whole { IfOk result (λ overload. (malformed_in begins area.now ≡ None) × (overload ≡ overload_in area.now)) }
+    ensures whole { IfOk result
+        (λ overload. (malformed_in begins area.now ≡ None) × (overload ≡ overload_in area.now)) }
     ensures malformed { IfErr result (λ m. malformed_in begins area.now ≡ Some m.place) }
 {
     let mut rest = area;

@@ -273,7 +273,8 @@ fn granted_by(alloc: Global, meeting: Meeting6, asks: &[IaAsk]) -> Result<Granti
     requires { IsMoment meeting.at }
     ensures ias { IfOk result
         (λ granting. ias_content granting.ias.items ≡ taking.ias_granted (meeting_shown meeting.entry) asks.now) }
-    ensures spans { IfOk result (λ granting. granting.spans ≡ taking.spans_granted (meeting_shown meeting.entry) asks.now) }
+    ensures spans { IfOk result
+        (λ granting. granting.spans ≡ taking.spans_granted (meeting_shown meeting.entry) asks.now) }
     ensures short { IfOk result (λ granting. IfSome granting.spans AreShort) }
     ensures timed { OnOk result (AllByRecursion (IsTimedFor (meeting_shown meeting.entry)) asks.now) }
 {

@@ -11,6 +11,7 @@ ghost use Rattle.v6_message.specs.ReadBack.{FitsSaid, said6_in};
 pub fn said_is_read_back()
     ensures read { (said : SaidContent) → FitsSaid said → said6_in (message6_text said) ≡ Some said }
     ensures one { (a b : SaidContent) → FitsSaid a → FitsSaid b → message6_text a ≡ message6_text b → a ≡ b }
-    ensures only { (message : List ℕ) (said : SaidContent) → said6_in message ≡ Some said → message ≡ message6_text said }
+    ensures only { (message : List ℕ) (said : SaidContent) → said6_in message ≡ Some said
+        → message ≡ message6_text said }
     ensures other { (said : SaidContent) → FitsSaid said → refusal_of (message6_text said) ≡ Some OtherType }
 {}

@@ -20,7 +20,8 @@ way_text (Ways.Gate6 gate) = codes " via " ++ ip6_text gate
 unfoldable pub row_text : HostRow → List ℕ
 row_text (Addr iface net) = codes "addr " ++ decimal iface.number ++ codes " " ++ net_text net
 row_text (Route iface dest way metric) =
-    codes "route " ++ decimal iface.number ++ codes " " ++ net_text dest ++ way_text way ++ codes " metric " ++ decimal metric
+    codes "route " ++ decimal iface.number ++ codes " " ++ net_text dest ++ way_text way ++ codes " metric "
+    ++ decimal metric
 
 abbrev pub IsIpv4 : Net → Type 0
 IsIpv4 (Family.V4 net) = Unit {0}

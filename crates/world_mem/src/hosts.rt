@@ -39,7 +39,7 @@ impl Model for MemHost {
 
     ghost view = { λ host. record { told = told_from host.first.items host.calls.items; failing = host.fails } };
 
-    ghost invariant = { λ host. HoldsRows (told_from host.first.items host.calls.items) host.rows.keys host.calls.items };
+    ghost invariant = { λ h. HoldsRows (told_from h.first.items h.calls.items) h.rows.keys h.calls.items };
 }
 
 impl MemHost {

@@ -196,7 +196,8 @@ pub(crate) fn left_files(
     files: Files,
 ) -> Result<Files, NoMemory>
     requires { (told_after first.now calls.now).files ≡ map entry_file files.entries }
-    ensures files { IfOk result (λ left. map entry_file left.entries ≡ files_left pick (told_after first.now calls.now)) }
+    ensures files { IfOk result
+        (λ left. map entry_file left.entries ≡ files_left pick (told_after first.now calls.now)) }
     ensures named { IfOk result (λ left. KeepsNames (told_after first.now calls.now) (map entry_file left.entries)) }
 {
     match pick {
