@@ -75,8 +75,8 @@ fn identifier_of(alloc: Global, managed: &Managed, duid: &Duid) -> Result<Vec<u8
     }
 }
 
-/// What a client says of itself.
-fn ask_of(alloc: Global, managed: &Managed, duid: &Duid) -> Result<Ask4, AllocError>
+/// What the client of an interface says of itself.
+pub fn ask_of(alloc: Global, managed: &Managed, duid: &Duid) -> Result<Ask4, AllocError>
     ensures { IfOk result (λ ask. ask_content ask ≡ ask_of duid.now.bytes.items managed.now) }
 {
     let conf = &managed.conf.dhcp4;
@@ -88,7 +88,8 @@ fn ask_of(alloc: Global, managed: &Managed, duid: &Duid) -> Result<Ask4, AllocEr
     })
 }
 
-fn settings_of(alloc: Global, managed: &Managed, duid: &Duid) -> Result<Set4, AllocError>
+/// The settings of the client of an interface.
+pub fn settings_of(alloc: Global, managed: &Managed, duid: &Duid) -> Result<Set4, AllocError>
     ensures { IfOk result (λ set. settings_content set ≡ settings_of duid.now.bytes.items managed.now) }
 {
     let conf = &managed.conf;

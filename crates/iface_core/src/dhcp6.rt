@@ -37,7 +37,7 @@ pub fn runs_dhcp6(conf: &IfConf) -> bool
 }
 
 /// The IAs that the client asks for.
-fn asks_of(alloc: Global, ias: &[IaConf]) -> Result<Vec<IaAsk>, AllocError>
+pub fn asks_of(alloc: Global, ias: &[IaConf]) -> Result<Vec<IaAsk>, AllocError>
     ensures { IfOk result (λ asks. asks.items ≡ map ask_for ias.now) }
 {
     ias.iter()

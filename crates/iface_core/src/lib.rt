@@ -18,8 +18,8 @@ mod telling;
 mod turns;
 
 pub use beginnings::Beginning;
-pub use dhcp4::runs_dhcp4;
-pub use dhcp6::runs_dhcp6;
+pub use dhcp4::{ask_of, runs_dhcp4, settings_of};
+pub use dhcp6::{asks_of, runs_dhcp6};
 pub use inputs::{Turn, TurnInput};
 pub use interfaces::{
     contains, earlier_of, iface_due, iface_held, iface_kept, iface_kept6, iface_lease,
@@ -28,4 +28,4 @@ pub use interfaces::{
 pub use outs::{Outs, Sending, Told};
 pub use sharing::{first_address, shares_of};
 pub use telling::{event_job, metric_of};
-pub use turns::{iface_input, iface_tick, iface_turn, iface_unsent};
+pub use turns::{arp_in_frame, iface_input, iface_tick, iface_turn, iface_unsent};

@@ -206,7 +206,7 @@ fn hear(
 }
 
 /// The ARP packet that a frame carries.
-fn arp_in_frame(bytes: &[u8]) -> Option<ArpView>
+pub fn arp_in_frame(bytes: &[u8]) -> Option<ArpView>
     ensures { result ≡ arp_heard bytes.now }
 {
     match eth_of(bytes) {

@@ -20,7 +20,7 @@ use v4_options::{addr_at, code, u32_at};
 
 /// A message as it was heard: from which hardware address, and at which moment.
 #[derive(Clone, Copy)]
-pub(crate) struct Arrival4<'a> {
+pub struct Arrival4<'a> {
     pub message: Msg4<'a>,
     pub source: Mac,
     pub at: u64,
@@ -105,8 +105,8 @@ fn is_chosen(chosen: Option<Ip4>, server: Ip4) -> bool
     }
 }
 
-/// Whether a lease of so many seconds, counted from `first`, isn't over.
-fn is_unexpired(first: u64, lease: u32, at: u64) -> bool
+/// Whether a lease of so many seconds, counted from `first`, isn't over at a moment in milliseconds since 1970.
+pub fn is_unexpired(first: u64, lease: u32, at: u64) -> bool
     requires { IsMoment first }
     ensures { result ≡ is_unexpired first lease at }
 {
@@ -177,8 +177,8 @@ fn reply_by(
     }
 }
 
-/// What the message says to a client that waits for an ACK.
-fn reply_in(
+/// What the message says to a client that waits for an ACK (RFC 2131, section 4.3.1). Memory is wanted as for `answer_of`.
+pub fn reply_in(
     alloc: Global,
     set: &Set4,
     arrival: &Arrival4,

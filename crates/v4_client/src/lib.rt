@@ -18,6 +18,7 @@ mod states;
 mod steps;
 mod ticking;
 
+pub use answers::{Arrival4, is_unexpired, reply_in};
 pub use client::{
     Client4, Out4, ask4, carrier4, client4_new, heard_arp4, heard4, held4, kept4, rebind4,
     release4, unsent4,

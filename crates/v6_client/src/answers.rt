@@ -43,7 +43,7 @@ pub(crate) fn is_awaited(awaited: Option<u32>, xid: u32) -> bool
 }
 
 /// Whether the bytes are those that a message tells.
-pub(crate) fn has_bytes(told: Option<&[u8]>, bytes: &[u8]) -> bool
+pub fn has_bytes(told: Option<&[u8]>, bytes: &[u8]) -> bool
     ensures { result ≡ answers.has_bytes (option_map (λ v. v.now) told.entry) bytes.now }
 {
     match told {
@@ -52,8 +52,8 @@ pub(crate) fn has_bytes(told: Option<&[u8]>, bytes: &[u8]) -> bool
     }
 }
 
-/// Whether the bytes are a DUID's.
-fn is_duid(bytes: &[u8]) -> bool
+/// Whether the bytes are a DUID's (RFC 8415, section 11.1).
+pub fn is_duid(bytes: &[u8]) -> bool
     ensures { result ≡ answers.is_duid bytes.now }
 {
     Duid::LEN_MIN <= bytes.len() && bytes.len() <= Duid::LEN_MAX

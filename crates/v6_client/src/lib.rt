@@ -27,6 +27,7 @@ mod times;
 mod turn;
 mod xid;
 
+pub use answers::{has_bytes, is_duid};
 pub use client::{
     Client6, Out6, carrier6, client6_new, duid6, duplicate6, heard6, held6, kept6, rebind6,
     release6,
@@ -38,6 +39,7 @@ pub use laws::{
     keeps_origins6, quiet_steps_keep6, stays_sound6,
 };
 pub use leases::Plea6;
+pub use reading::{ia_for, is_unbound, saids_of, serves};
 pub use renewing::Spans6;
 pub use settings::{IaAsk, Set6, Site6};
 pub use states::{

@@ -162,7 +162,7 @@ fn is_no_binding(ia: IaView) -> bool
 }
 
 /// Whether the server knows nothing of the IA.
-pub(crate) fn is_unbound(ia: Option<IaView>) -> bool
+pub fn is_unbound(ia: Option<IaView>) -> bool
     ensures { result ≡ reading.is_unbound (option_map ia_shown ia.entry) }
 {
     match ia {
@@ -172,7 +172,7 @@ pub(crate) fn is_unbound(ia: Option<IaView>) -> bool
 }
 
 /// The items that count of an IA that a message may have.
-pub(crate) fn saids_of(alloc: Global, ia: Option<IaView>) -> Result<Vec<ItemSaid>, NoMemory>
+pub fn saids_of(alloc: Global, ia: Option<IaView>) -> Result<Vec<ItemSaid>, NoMemory>
     ensures saids { IfOk result (λ saids. saids.items ≡ reading.saids_of (option_map ia_shown ia.entry)) }
     ensures few { IfOk result (λ saids. length saids.items ≤ 4) }
 {
@@ -189,7 +189,7 @@ fn is_for(ask: IaAsk, ia: IaView) -> bool
 }
 
 /// The first IA among options that is of a kind and an IAID.
-pub(crate) fn ia_for(ask: IaAsk, options: &[u8]) -> Option<IaView<'_>>
+pub fn ia_for(ask: IaAsk, options: &[u8]) -> Option<IaView<'_>>
     ensures { option_map ia_shown result ≡ reading.ia_for ask (ias_in options.now) }
 {
     let mut views = ia_views(options);
@@ -224,7 +224,7 @@ fn some_served(asks: &[IaAsk], options: &[u8]) -> bool
 }
 
 /// Whether a message serves the client that asks for these.
-pub(crate) fn serves(asks: &[IaAsk], message: &Msg6) -> bool
+pub fn serves(asks: &[IaAsk], message: &Msg6) -> bool
     ensures { result ≡ reading.serves asks.now (message_shown message.now) }
 {
     message.status.is_success() && some_served(asks, message.options)
