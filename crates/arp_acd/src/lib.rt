@@ -13,4 +13,5 @@ pub mod timing;
 
 pub use constants::timing_is_that_of_rfc_5227;
 pub use detection::{Acd, AcdSays, ArpSay, acd_addr, acd_begin, acd_heard, acd_held, acd_unsent};
+pub use foreign::{is_contested, is_used};
 pub use laws::{gives_up_contested_twice, passes_after_probes};
