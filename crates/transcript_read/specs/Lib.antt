@@ -1,3 +1,4 @@
 pub mod Places
 pub mod Bodies
 pub mod Contents
+pub mod Whole

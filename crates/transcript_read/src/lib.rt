@@ -4,6 +4,8 @@
 mod body;
 mod follower;
 mod place;
+mod transcript;
 
 pub use body::{BodyAnswer, follow_body};
 pub use follower::Follower;
+pub use transcript::{TranscriptAnswer, follow_transcript};
