@@ -1,6 +1,5 @@
 -- With which fronts no value's lines go on: said of lines, and so of texts.
 use Rattle.std.proofs.Common.{◌≡◌, ℕ, ◌+◌, ◌≤◌, List, [], ◌∷◌, ◌++◌, length, Option, Some, None, refl, sym, ap, ◌∙◌, subst, arith, append_assoc, length-append}
-use Rattle.std.proofs.lemmas.List.{append-nil}
 use Rattle.net_types.specs.Cutting.{split_at_byte}
 use Rattle.net_types.specs.FirstBadLine.{Breaks}
 use Rattle.net_types.specs.Marks.{Lacks}
@@ -70,8 +69,8 @@ pub breaks_lines : {V : Type 0} (Spells : V → List Line → Type 0) → AllLin
     → text ≡ lines_text lines ++ rest → NoneGoesOn Spells lines (front_in rest) → Breaks Spells text lines (front_in rest)
 breaks_lines Spells feeds text lines [] are cut none =
     λ value all spells same.
-        let g = goes_on lines all [] are (feeds value all spells) (sym same ∙ cut) in
-        none value g.more (subst (Spells value) g.whole spells) (ap front_in (sym g.text))
+    let g = goes_on lines all [] are (feeds value all spells) (sym same ∙ cut) in
+    none value g.more (subst (Spells value) g.whole spells) (ap front_in (sym g.text))
 breaks_lines Spells feeds text lines (byte ∷ rest) are cut none =
     let whole = byte ∷ rest in
     elim (split_at_byte 10 whole) as (λ o. FrontBreaks Spells text lines whole o) [
@@ -92,8 +91,8 @@ pub none_goes_on : {V : Type 0} (Spells : V → List Line → Type 0) → AllLin
     → text ≡ lines_text lines ++ rest → Breaks Spells text lines (front_in rest) → NoneGoesOn Spells lines (front_in rest)
 none_goes_on Spells feeds text lines [] cut breaks =
     λ value more spells same.
-        let none = no_front more (later_are lines more (feeds value (lines ++ more) spells)) same in
-        breaks value (lines ++ more) spells (cut ∙ ap (λ ls. lines_text lines ++ lines_text ls) (sym none) ∙ sym (text_more lines more))
+    let none = no_front more (later_are lines more (feeds value (lines ++ more) spells)) same in
+    breaks value (lines ++ more) spells (cut ∙ ap (λ ls. lines_text lines ++ lines_text ls) (sym none) ∙ sym (text_more lines more))
 none_goes_on Spells feeds text lines (byte ∷ rest) cut breaks =
     let whole = byte ∷ rest in
     elim (split_at_byte 10 whole) as (λ o. BreaksFront Spells text lines whole o) [

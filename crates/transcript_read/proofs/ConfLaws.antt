@@ -1,6 +1,6 @@
 -- A configuration's first fault is that of each longer text with the same lines up to it; the lines before it are a
 -- configuration without a fault.
-use Rattle.std.proofs.Common.{◌≡◌, ◌≢◌, ◌⊎◌, inl, inr, ℕ, suc, ◌+◌, Bool, true, false, cond, List, [], ◌∷◌, ◌++◌, length, Option, Some, None, option_map, Result, Ok, Err, refl, sym, ap, ◌∙◌, subst, arith, append_assoc, IsTrue, eqb}
+use Rattle.std.proofs.Common.{◌≡◌, ◌≢◌, inl, inr, ℕ, suc, ◌+◌, Bool, true, false, cond, List, [], ◌∷◌, ◌++◌, length, Option, Some, None, option_map, Result, Ok, Err, refl, sym, ap, ◌∙◌, subst, arith, append_assoc, IsTrue, eqb}
 use Rattle.std.specs.List.{list_all, enumerate_from, cons_option, filter_map}
 use Rattle.std.specs.Option.{option_or}
 use Rattle.std.proofs.lemmas.Bool.{and_from, ne_eqb}
@@ -9,13 +9,12 @@ use Rattle.std.proofs.lemmas.Option.{none-some}
 use Rattle.net_types.specs.Cutting.{split_at_byte}
 use Rattle.net_types.specs.Marks.{Lacks}
 use Rattle.net_types.specs.TextLines.{AreLines, Line, ended, lines_text}
-use Rattle.net_types.proofs.AllLaws.{all_join}
 use Rattle.net_types.proofs.ReadsLaws.{mapped, some_same, split_whole}
 use Rattle.conf_words.specs.Characters.{is_text}
 use Rattle.conf_words.specs.Directives.{Directive, directive_from, directive_in, says_nothing}
 use Rattle.conf_words.specs.Marks.{front_of, is_of_word, line_feed, parts_words, past}
 use Rattle.conf_words.specs.Parts.{Leads}
-use Rattle.conf_words.specs.Readings.{IsReadAs, Read, StopsBefore, directives}
+use Rattle.conf_words.specs.Readings.{IsReadAs, Read, StopsBefore}
 use Rattle.conf_words.specs.Steps as Steps
 use Rattle.conf_words.specs.Steps.{line_by, without_return}
 use Rattle.conf_words.specs.TextLines.{BeginsWithLine}
@@ -46,22 +45,23 @@ scan number [] = record { found = []; not_text = None }
 scan number (line ∷ lines) =
     scanned (is_text (without_return line)) number (directive_in number (without_return line)) (scan (number + 1) lines)
 
+some_line : (text : List ℕ) → text ≢ [] → Steps.line_at text ≡ Some (line_by text (split_at_byte line_feed text))
+unfolding Steps.line_at
+some_line [] some = absurd (some refl)
+some_line (byte ∷ bytes) some =
+    let long : eqb (suc (length bytes)) 0 ≡ false = ne_eqb _ _ (λ e. absurd (omega (arith, e))) in
+    ap (λ b. cond b None (Some (line_by (byte ∷ bytes) (split_at_byte line_feed (byte ∷ bytes))))) long
+
+longer_text : (front rest : List ℕ) → (front ++ 10 ∷ []) ++ rest ≢ []
+longer_text [] rest e = let no : ⊥ = cc in no
+longer_text (first ∷ front) rest e = let no : ⊥ = cc in no
+
 begins_line : (line : Line) (rest : List ℕ) → Lacks 10 line → BeginsWithLine (ended line ++ rest) (without_return line) rest
-begins_line line rest lacks = line_sound (ended line ++ rest) (without_return line) rest (here (ended line ++ rest) refl)
-  where
-    some : (text : List ℕ) → text ≢ [] → Steps.line_at text ≡ Some (line_by text (split_at_byte line_feed text))
-    unfolding Steps.line_at
-    some [] is = absurd (is refl)
-    some (byte ∷ bytes) is =
-        let long : eqb (suc (length bytes)) 0 ≡ false = ne_eqb _ _ (λ e. absurd (omega (arith, e))) in
-        ap (λ b. cond b None (Some (line_by (byte ∷ bytes) (split_at_byte line_feed (byte ∷ bytes))))) long
-    longer : (front : List ℕ) → (front ++ 10 ∷ []) ++ rest ≢ []
-    longer [] e = let no : ⊥ = cc in no
-    longer (first ∷ front) e = let no : ⊥ = cc in no
-    here : (text : List ℕ) → text ≡ ended line ++ rest → Steps.line_at text ≡ Some (without_return line, rest)
-    here text e =
-        some text (λ empty. longer line (sym e ∙ empty))
-        ∙ ap (λ o. Some (line_by text o)) (ap (split_at_byte 10) (e ∙ append_assoc line (10 ∷ []) rest) ∙ split_whole 10 line rest lacks)
+begins_line line rest lacks =
+    line_sound (ended line ++ rest) (without_return line) rest
+    (some_line (ended line ++ rest) (longer_text line rest)
+    ∙ ap (λ o. Some (line_by (ended line ++ rest) o))
+    (ap (split_at_byte 10) (append_assoc line (10 ∷ []) rest) ∙ split_whole 10 line rest lacks))
 
 -- what a text of lines is read as, from some line on
 record ReadFrom (number : ℕ) (text : List ℕ) (read : Read) : Type 0 where
@@ -289,18 +289,17 @@ stands_to place (line ∷ lines) (first ∷ front) stands more rest stand =
 abbrev reading : List Directive → Option ℕ → Read
 reading found number = record { found = found; not_text = number }
 
+number_from : (number : ℕ) (words : List ℕ) (directive : Directive) → directive_from number words ≡ Some directive → directive.number ≡ number
+number_from number words directive e =
+    let made : Directive = record { number = number; word = front_of is_of_word words; about = past is_of_word words } in
+    elim (says_nothing words) as (λ b. cond b None (Some made) ≡ Some directive → directive.number ≡ number) [
+      | true ↦ λ q. absurd (none-some directive q)
+      | false ↦ λ q. sym (ap (λ (d : Directive). d.number) (some_same q))
+    ] e
+
 number_is : (number : ℕ) (line : List ℕ) (directive : Directive) → directive_in number line ≡ Some directive → directive.number ≡ number
 unfolding directive_in
-number_is number line directive e = by (past parts_words line) e
-  where
-    by : (words : List ℕ) → directive_from number words ≡ Some directive → directive.number ≡ number
-    by words q =
-        elim (says_nothing words) as
-        (λ b. cond b None (Some (record { number = number; word = front_of is_of_word words; about = past is_of_word words })) ≡ Some directive
-        → directive.number ≡ number) [
-          | true ↦ λ r. absurd (none-some directive r)
-          | false ↦ λ r. sym (ap (λ (d : Directive). d.number) (some_same r))
-        ] q
+number_is number line directive e = number_from number (past parts_words line) directive e
 
 record LineOf (number : ℕ) (lines : List Line) (front : List Directive) (directive : Directive) : Type 0 where
   before : List Line
@@ -357,7 +356,8 @@ line_by_line true (Some found) number line lines [] directive later good is e of
       read = refl;
       with_it = one (reading [] None) ∙ ap (λ d. reading (d ∷ []) None) same;
       counted =
-          sym (ap (λ (d : Directive). d.number) same) ∙ number_is number (without_return line) found is ∙ (let none : number ≡ number + 0 = omega arith in none);
+          sym (ap (λ (d : Directive). d.number) same) ∙ number_is number (without_return line) found is
+          ∙ (let none : number ≡ number + 0 = omega arith in none);
     }
 line_by_line true (Some found) number line lines (first ∷ front) directive later good is e of =
     let same : found ≡ first = ap (head_or found) e in

@@ -1,11 +1,11 @@
 -- The head of a transcript: its lines one after another, and what no transcript goes on with.
-use Rattle.std.proofs.Common.{◌≡◌, ◌≢◌, ℕ, ◌+◌, ◌<◌, ◌≤◌, Bool, true, false, List, [], ◌∷◌, ◌++◌, map, length, codes, Option, Some, None, option_and_then, Result, Ok, Err, refl, sym, ap, ◌∙◌, subst, arith, append_assoc, length-append, bytes_eq}
+use Rattle.std.proofs.Common.{◌≡◌, ◌≢◌, ℕ, ◌+◌, ◌<◌, ◌≤◌, true, false, List, [], ◌∷◌, ◌++◌, map, length, codes, Some, None, refl, sym, ap, ◌∙◌, subst, arith, append_assoc, length-append, bytes_eq}
 use Rattle.std.proofs.lemmas.List.{append-nil}
 use Rattle.std.proofs.lemmas.Option.{none-some}
 use Rattle.std.proofs.lemmas.Slice.Eq.{bytes_eq-Decides}
 use Rattle.net_types.specs.Cutting.{◌>>=◌, split_at_byte, strip_word}
 use Rattle.net_types.specs.Marks.{Lacks}
-use Rattle.net_types.specs.TextLines.{AreLines, End, Front, Line, Unended, Whole, ended, front_by, front_in, lines_text}
+use Rattle.net_types.specs.TextLines.{AreLines, End, Line, Unended, Whole, ended, front_by, front_in, lines_text}
 use Rattle.net_types.proofs.AllLaws.{all_join}
 use Rattle.net_types.proofs.LineSteps.{text_more}
 use Rattle.net_types.proofs.ListLaws.{split_smaller}
@@ -16,7 +16,7 @@ use Rattle.script_model.specs.Lines.{line_words}
 use Rattle.transcript_read.specs.Heads.{AreConfLines, ConfLinesSoFar, HaltsAt, HaltsBy, LacksNotice, LacksNoticeAt, NoticedSoFar, SpellsNoticed, conf_line_at, conf_words, notice_words}
 use Rattle.transcript_read.specs.declared.answers.TranscriptAnswer.{TranscriptAnswer}
 use Rattle.transcript_read.specs.declared.answers.TranscriptAnswer.TheVariants as answers
-use Rattle.transcript_read.proofs.BreakLaws.{AllLines, counted_within, first_line, front_line, later_are, same_whole}
+use Rattle.transcript_read.proofs.BreakLaws.{AllLines, counted_within, front_line, later_are, same_whole}
 
 -- ---- lists
 
@@ -34,7 +34,7 @@ map_joined f (x ∷ xs) ys = ap (λ ls. f x ∷ ls) (map_joined f xs ys)
 
 pub length_mapped : {X : Type 0} (f : X → Line) (xs : List X) → length (map f xs) ≡ length xs
 length_mapped f [] = refl
-length_mapped f (x ∷ xs) = ap (λ n. n + 1) (length_mapped f xs)
+length_mapped f (x ∷ xs) = let later = length_mapped f xs in omega (arith, later)
 
 -- ---- one line more
 
@@ -67,7 +67,7 @@ conf_is : (line : Line) → codes "c:" ++ line ≡ conf_words line
 unfolding line_words
 conf_is line = refl
 
-conf_lacks : (line : Line) → Lacks 10 (conf_words line) → Lacks 10 line
+pub conf_lacks : (line : Line) → Lacks 10 (conf_words line) → Lacks 10 line
 unfolding line_words
 conf_lacks line lacks = lacks
 

@@ -1,39 +1,37 @@
 -- A text whose head and body are read is a transcript, and with what stops the reading no transcript goes on.
-use Rattle.std.proofs.Common.{◌≡◌, ◌≢◌, ℕ, ◌+◌, ◌-◌, ◌<◌, ◌≤◌, ◌^◌, Bool, true, false, List, [], ◌∷◌, ◌++◌, map, length, codes, min, Option, Some, None, Result, Ok, Err, refl, sym, ap, ◌∙◌, subst, arith, append_assoc, length-append, bytes_eq}
-use Rattle.std.specs.List.{AllByRecursion}
+use Rattle.std.proofs.Common.{◌≡◌, ◌≢◌, ℕ, ◌+◌, ◌-◌, ◌<◌, ◌≤◌, ◌^◌, true, false, List, [], ◌∷◌, ◌++◌, map, length, codes, min, Some, None, Result, Ok, Err, refl, sym, ap, ◌∙◌, subst, arith, append_assoc, bytes_eq}
 use Rattle.std.proofs.lemmas.List.{append-nil}
 use Rattle.std.proofs.lemmas.Option.{none-some}
 use Rattle.std.proofs.lemmas.Slice.Eq.{bytes_eq-Decides}
 use Rattle.net_types.specs.Cutting.{split_at_byte, strip_word}
-use Rattle.net_types.specs.FirstBadLine.{IsSpelled}
-use Rattle.net_types.specs.Marks.{IsPrintable, Lacks}
-use Rattle.net_types.specs.TextLines.{AreLines, End, Front, Line, Unended, Whole, ended, front_by, front_in, lines_text}
-use Rattle.net_types.proofs.AllLaws.{all_join, all_map}
+use Rattle.net_types.specs.Marks.{Lacks}
+use Rattle.net_types.specs.TextLines.{AreLines, End, Line, Unended, Whole, ended, front_by, front_in, lines_text}
+use Rattle.net_types.proofs.AllLaws.{all_join}
 use Rattle.net_types.proofs.LineSteps.{text_more}
-use Rattle.net_types.proofs.ReadsLaws.{some_same, split_sound}
+use Rattle.net_types.proofs.ListLaws.{split_smaller}
+use Rattle.net_types.proofs.ReadsLaws.{split_sound}
 use Rattle.conf_text.specs.declared.answers.ConfFault.{ConfFault}
 use Rattle.conf_text.specs.Configurations.{Configuration, IsConfOf, NoticeContent}
 use Rattle.conf_text.specs.Laws.{ConfigurationIsOne}
 use Rattle.script_model.specs.Lines as Model
 use Rattle.script_model.specs.Lines.{line_words}
 use Rattle.script_model.specs.Spellings.{AreSpelled}
-use Rattle.replay_text.proofs.Printables.{no_feed_in}
 use Rattle.transcript_lines.specs.LineKinds.{kind_at}
 use Rattle.transcript_lines.specs.LineReading.{line_at}
 use Rattle.transcript_lines.specs.LineSpellings.{IsTold, LinesAreRead}
 use Rattle.transcript_model.specs.Told.{BodyTold, Told, body_lines, head_lines, notice_line}
 use Rattle.transcript_model.specs.Transcripts.{SpellsBody, SpellsTold}
-use Rattle.transcript_read.specs.Bodies.{IsBadAt, IsFollowed, followed}
-use Rattle.transcript_read.specs.Heads.{AreConfLines, AreNoticed, Comes, HaltsAt, IsFaultyAt, NoneGoesOn, NoticedSoFar, SpellsConfigured, SpellsNoticed, conf_words, end_of_body, end_of_told, notice_words}
+use Rattle.transcript_read.specs.Bodies.{IsBadAt, IsFollowed}
+use Rattle.transcript_read.specs.Heads.{AreConfLines, AreNoticed, Comes, HaltsAt, HaltsBy, IsFaulty, IsFaultyAt, SpellsConfigured, SpellsNoticed, conf_words, end_of_body, end_of_told, notice_words}
+use Rattle.transcript_read.specs.declared.answers.TranscriptAnswer.{TranscriptAnswer}
+use Rattle.transcript_read.specs.declared.answers.TranscriptAnswer.TheVariants as answers
 use Rattle.transcript_read.specs.Whole.{IsBadLine, IsFollowedWhole}
+use Rattle.transcript_read.proofs.BodyLaws.{body_are}
 use Rattle.transcript_read.proofs.BreakLaws.{AllLines, Turns, breaks_lines, counted_within, first_line, front_line, halts_later, later_are, none_goes_on, same_whole}
-use Rattle.transcript_read.proofs.ConfLaws.{FaultyLine, fault_stays, faulty_line}
-use Rattle.transcript_read.proofs.HeadLaws.{cancel, conf_within, length_mapped, map_joined, noticed_lines, noticed_within}
+use Rattle.transcript_read.proofs.ConfLaws.{fault_stays, faulty_line}
+use Rattle.transcript_read.proofs.HeadLaws.{cancel, conf_lacks, length_mapped, map_joined, noticed_lines}
 
 -- ---- all of them are lines
-
-body_are : AllLines SpellsBody
-body_are = λ body all spells. all_map IsPrintable (Lacks 10) no_feed_in all spells.printable
 
 configured_lines : AllLines SpellsConfigured
 configured_lines = λ told all spells. spells.each
@@ -89,20 +87,24 @@ record Goes (lines all more others : List Line) : Type 0 where
 
 conf_goes : (lines all more others : List Line) → ((line : Line) (later : List Line) → others ≡ conf_words line ∷ later → ⊥)
     → map conf_words lines ++ more ≡ map conf_words all ++ others → Goes lines all more others
-conf_goes [] all more others no e = record { later = all; whole = refl; rest = e }
-conf_goes (line ∷ lines) [] more others no e = absurd (no line (map conf_words lines ++ more) (sym e))
-conf_goes (line ∷ lines) (first ∷ all) more others no e =
+conf_goes [] all more others apart e = record { later = all; whole = refl; rest = e }
+conf_goes (line ∷ lines) [] more others apart e = absurd (apart line (map conf_words lines ++ more) (sym e))
+conf_goes (line ∷ lines) (first ∷ all) more others apart e =
     let same = same_conf line first (ap first_of e) in
-    let next = conf_goes lines all more others no (ap after_first e) in
+    let next = conf_goes lines all more others apart (ap after_first e) in
     record { later = next.later; whole = ap (λ l. l ∷ all) (sym same) ∙ ap (λ ls. line ∷ ls) next.whole; rest = next.rest }
 
 conf_are : (lines more : List Line) → AreLines (map conf_words lines ++ more) → AreLines lines
 conf_are [] more are = tt
-conf_are (line ∷ lines) more are = (lacks line are.0, conf_are lines more are.1)
-  where
-    lacks : (line : Line) → Lacks 10 (conf_words line) → Lacks 10 line
-    unfolding line_words
-    lacks line lacks = lacks
+conf_are (line ∷ lines) more are = (conf_lacks line are.0, conf_are lines more are.1)
+
+feed_conf : (line : Line) → Lacks 10 line → Lacks 10 (conf_words line)
+unfolding line_words
+feed_conf line lacks = lacks
+
+feeds_conf : (lines : List Line) → AreLines lines → AreLines (map conf_words lines)
+feeds_conf [] are = tt
+feeds_conf (line ∷ lines) are = (feed_conf line are.0, feeds_conf lines are.1)
 
 -- ---- a fault of the configuration
 
@@ -124,11 +126,12 @@ faulty_halts law one text conf rest line number read faulty =
     let lines_are = later_are f.before (f.line ∷ f.later) feeds in
     let count : number ≡ length f.before + 1 = exact_number number (length f.before + 1) (sym faulty.at ∙ f.counted) faulty.exact in
     let behind = lines_text (map conf_words f.later) ++ rest in
-    let here : front_in (ended (conf_words f.line) ++ behind) ≡ Whole (conf_words f.line) = front_line (conf_words f.line) behind (feed f.line lines_are.0) in
+    let here : front_in (ended (conf_words f.line) ++ behind) ≡ Whole (conf_words f.line) =
+    front_line (conf_words f.line) behind (feed_conf f.line lines_are.0) in
     record {
       lines = map conf_words f.before;
       rest = ended (conf_words f.line) ++ behind;
-      are = feeds_in f.before (front_are f.before (f.line ∷ f.later) feeds);
+      are = feeds_conf f.before (front_are f.before (f.line ∷ f.later) feeds);
       cut = taken.cut ∙ ap (λ ls. lines_text (map conf_words ls) ++ rest) f.all ∙ ap (λ ls. lines_text ls ++ rest) whole
           ∙ ap (λ t. t ++ rest) (text_more (map conf_words f.before) (map conf_words (f.line ∷ f.later)))
           ∙ append_assoc (lines_text (map conf_words f.before)) (lines_text (map conf_words (f.line ∷ f.later))) rest
@@ -152,15 +155,14 @@ faulty_halts law one text conf rest line number read faulty =
           cc;
     }
   where
-    feed : (line : Line) → Lacks 10 line → Lacks 10 (conf_words line)
-    unfolding line_words
-    feed line lacks = lacks
-    feeds_in : (lines : List Line) → AreLines lines → AreLines (map conf_words lines)
-    feeds_in [] are = tt
-    feeds_in (line ∷ lines) are = (feed line are.0, feeds_in lines are.1)
     front_are : (lines more : List Line) → AreLines (lines ++ more) → AreLines lines
     front_are [] more are = tt
     front_are (line ∷ lines) more are = (are.0, front_are lines more are.1)
+
+pub faulty_by : LinesAreRead → ConfigurationIsOne → (text conf rest : List ℕ) (line : ℕ) (answer : TranscriptAnswer) → AreConfLines text conf rest line
+    → IsFaulty conf answer → HaltsBy SpellsConfigured text answer
+faulty_by law one text conf rest line (answers.Bad number) read faulty = faulty_halts law one text conf rest line number read faulty
+faulty_by law one text conf rest line answers.NoMemory read faulty = tt
 
 -- ---- from a body to what stands after the configuration
 
@@ -222,8 +224,8 @@ configured_turns : LinesAreRead → ConfigurationIsOne → (conf : List Line) (c
     → Turns SpellsConfigured (SpellsNoticed configuration.notices) (map conf_words conf) body
 configured_turns law one conf configuration body is all =
     λ told more spells same.
-        let goes = conf_goes conf told.conf more spells.others (no_conf law told.configuration.notices told.body spells.others spells.noticed) spells.are in
-        ends told more spells same goes goes.later refl
+    let goes = conf_goes conf told.conf more spells.others (no_conf law told.configuration.notices told.body spells.others spells.noticed) spells.are in
+    ends told more spells same goes goes.later refl
   where
     ends : (told : Told) (more : List Line) (spells : SpellsConfigured told (map conf_words conf ++ more)) → front_in (lines_text more) ≡ front_in body
         → (goes : Goes conf told.conf more spells.others) (later : List Line) → goes.later ≡ later
@@ -235,7 +237,8 @@ configured_turns law one conf configuration body is all =
         subst (λ ls. IsConfOf (lines_text ls) (Ok told.configuration)) whole spells.configured in
         let both : told.configuration ≡ configuration =
         ap (conf_or configuration) (one (lines_text conf) (Ok told.configuration) (Ok configuration) configured is) in
-        let noticed : SpellsNoticed told.configuration.notices told.body more = subst (SpellsNoticed told.configuration.notices told.body) (sym here) spells.noticed in
+        let noticed : SpellsNoticed told.configuration.notices told.body more =
+        subst (SpellsNoticed told.configuration.notices told.body) (sym here) spells.noticed in
         (told.body, subst (λ (c : Configuration). SpellsNoticed c.notices told.body more) both noticed)
     ends told more spells same goes (line ∷ later) some =
         let here : more ≡ conf_words line ∷ (map conf_words later ++ spells.others) =
@@ -244,14 +247,6 @@ configured_turns law one conf configuration body is all =
         let front : front_in (lines_text more) ≡ Whole (conf_words line) =
         ap (λ ls. front_in (lines_text ls)) here ∙ front_line (conf_words line) (lines_text (map conf_words later ++ spells.others)) are.0 in
         absurd (all line (sym same ∙ front))
-
-feed_conf : (line : Line) → Lacks 10 line → Lacks 10 (conf_words line)
-unfolding line_words
-feed_conf line lacks = lacks
-
-feeds_conf : (lines : List Line) → AreLines lines → AreLines (map conf_words lines)
-feeds_conf [] are = tt
-feeds_conf (line ∷ lines) are = (feed_conf line are.0, feeds_conf lines are.1)
 
 pub noticed_halts : LinesAreRead → ConfigurationIsOne → (configuration : Configuration) (text conf rest : List ℕ) (line number further : ℕ)
     → AreConfLines text conf rest line → IsConfOf conf (Ok configuration) → HaltsAt (SpellsNoticed configuration.notices) rest number
@@ -309,19 +304,21 @@ words_after (line ∷ conf) notices = ap (λ ls. conf_words line ∷ ls) (words_
 told_turns : (body : List ℕ) → Turns SpellsTold SpellsConfigured (head_words ∷ []) body
 told_turns body =
     λ told more spells same.
-        let conf = map conf_words told.conf in
-        let notices = map notice_words told.configuration.notices in
-        let are : more ≡ conf ++ (notices ++ spells.others) =
-        ap after_first spells.are ∙ ap (λ ls. ls ++ spells.others) (words_after told.conf told.configuration.notices)
-        ∙ append_assoc conf notices spells.others in
-        let each = subst AreLines are spells.each.1 in
-        (told, record {
-          others = notices ++ spells.others;
-          are = are;
-          each = spells.each.1;
-          configured = spells.configured;
-          noticed = record { others = spells.others; are = refl; each = later_are conf (notices ++ spells.others) each; spells = spells.spells };
-        })
+    let conf = map conf_words told.conf in
+    let notices = map notice_words told.configuration.notices in
+    let are : more ≡ conf ++ (notices ++ spells.others) =
+    ap after_first spells.are ∙ ap (λ ls. ls ++ spells.others) (words_after told.conf told.configuration.notices)
+    ∙ append_assoc conf notices spells.others in
+    let each = subst AreLines are spells.each.1 in (
+      told,
+      record {
+        others = notices ++ spells.others;
+        are = are;
+        each = spells.each.1;
+        configured = spells.configured;
+        noticed = record { others = spells.others; are = refl; each = later_are conf (notices ++ spells.others) each; spells = spells.spells };
+      },
+    )
 
 head_lacks : Lacks 10 head_words
 unfolding line_words
@@ -379,9 +376,9 @@ pub other_first : (text first rest : List ℕ) → Some (first, rest) ≡ split_
 other_first text first rest e other =
     first_bad text
     (λ same.
-        let both : first ≡ head_words = same_whole first head_words (sym (front_is text first rest e) ∙ same) in
-        let never : false ≡ true = sym other ∙ (bytes_eq-Decides first (codes "dhcpcd-transcript 1")).1 (both ∙ sym head_is) in
-        cc)
+    let both : first ≡ head_words = same_whole first head_words (sym (front_is text first rest e) ∙ same) in
+    let never : false ≡ true = sym other ∙ (bytes_eq-Decides first (codes "dhcpcd-transcript 1")).1 (both ∙ sym head_is) in
+    cc)
 
 text_of : (text first rest : List ℕ) → Some (first, rest) ≡ split_at_byte 10 text → bytes_eq first (codes "dhcpcd-transcript 1") ≡ true
     → text ≡ lines_text (head_words ∷ []) ++ rest
@@ -436,3 +433,10 @@ halts_within Spells text number halts =
 pub bad_within : (text : List ℕ) (number : ℕ) → IsBadAt text number → number ≤ length text + 1
 bad_within text number bad =
     let within = counted_within bad.lines text bad.rest number bad.cut bad.counted in omega (arith, within)
+
+pub first_within : {V : Type 0} (Spells : V → List Line → Type 0) (text first rest : List ℕ) (number : ℕ) → Some (first, rest) ≡ split_at_byte 10 text
+    → HaltsAt Spells rest number → number ≤ length text
+first_within Spells text first rest number e halts =
+    let smaller = split_smaller 10 text first rest (sym e) in
+    let within = halts_within Spells rest number halts in
+    omega (arith, smaller, within)

@@ -20,6 +20,7 @@ pub struct ConfLines<'a> {
 }
 
 /// A line of a configuration in front of the text, without what marks it, and what stands after it.
+#[tactic(auto, unfolding(crate::specs::Heads::conf_line_at))]
 fn conf_line(text: &[u8]) -> Option<(&[u8], &[u8])>
     ensures { option_map (λ p. (p.0.now, p.1.now)) result ≡ conf_line_at text.now }
 {
@@ -29,6 +30,7 @@ fn conf_line(text: &[u8]) -> Option<(&[u8], &[u8])>
 }
 
 /// The lines in front of the text that are marked as those of a configuration.
+#[tactic(auto, using(crate::proofs::HeadLaws::conf_more, crate::proofs::HeadLaws::conf_smaller))]
 pub fn conf_lines<'a>(alloc: Global, text: &'a [u8]) -> Result<ConfLines<'a>, NoMemory>
     ensures { IfOk result (λ lines. AreConfLines text.now lines.text.items lines.rest.now lines.line) }
 {
