@@ -1,0 +1,5 @@
+mod JudgedRows
+mod LinesWalked
+mod LivesWalked
+mod FirstLacking
+pub mod Found

@@ -1,0 +1,4 @@
+pub mod Showing
+pub mod Verdicts
+pub mod Auditing
+pub mod Laws
