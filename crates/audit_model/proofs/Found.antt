@@ -1,15 +1,16 @@
 -- What is found in the lives of a transcript is the first address without basis.
 use Rattle.std.proofs.Common.{◌≡◌, ◌≢◌, ℕ, ◌+◌, List, [], ◌∷◌, ◌++◌, length, Option, Some, None, option_map, refl, sym, ap, ◌∙◌, subst, arith}
 use Rattle.std.specs.List.{AllByRecursion}
+use Rattle.net_types.specs.FirstBadLine.{IsSpelled}
 use Rattle.world.specs.declared.rows.HostRow.{HostRow}
 use Rattle.host_model.specs.HostTable.{InRowOrder}
 use Rattle.transcript_model.specs.Told.{Told, LifeTold, TurnTold}
 use Rattle.transcript_model.specs.LifeShapes.{AllFollow, FitsLife}
-use Rattle.transcript_model.specs.Transcripts.{FitsBody}
+use Rattle.transcript_model.specs.Transcripts.{FitsBody, SpellsTold}
 use Rattle.audit_model.specs.Showing.{Shown, shown_after, shown_at_first, shown_next}
 use Rattle.audit_model.specs.Verdicts.{BasisWord, FirstUnjust, IsJust, IsUnjust, LifeIsJust}
 use Rattle.audit_model.specs.Auditing.{Judge, Unjust, lacking, unjust_at, unjust_first}
-use Rattle.audit_model.specs.Laws.{AuditsTell, Decides, HasOneVerdict, IsAudited, SaysSo, VerdictsAreOne, audited}
+use Rattle.audit_model.specs.Laws.{AuditsTell, Decides, HasOneVerdict, IsAudited, SaysSo, SaysVerdict, VerdictsAreOne, VerdictsAreSaid, audited}
 use Rattle.audit_model.proofs.LivesWalked.{Scene, ends_told, found_from, found_in_life, found_in_lives, found_then, found_told, first_in_order, living_of, next_in_order, scene_of}
 use Rattle.audit_model.proofs.FirstLacking.{just_lacks, none_lacks, sites_of, some_lacks, unjust_lacks}
 
@@ -326,6 +327,17 @@ module _ (judge : Judge) (Rests : BasisWord) (decides : Decides judge Rests) whe
           none_or : {u : Unjust} → None ≡ Some u → ⊥
           none_or e = cc
 
+-- ---- for each text
+
+module _ (judge : Judge) (Rests : BasisWord) (decides : Decides judge Rests) where
+  pub said : (text : List ℕ) (told : Told) → IsSpelled SpellsTold text told → SaysVerdict Rests text (audited judge told)
+  said text told spelled =
+      let audit = tells judge Rests decides told spelled.spells.spells.fits in
+      record {
+        yes = λ none. record { told = told; spelled = spelled; just = audit.just none; lives_are = audit.lives; turns_are = audit.turns };
+        no = λ unjust found. record { told = told; spelled = spelled; first = audit.first unjust.life unjust.turn unjust.row found };
+      }
+
 -- ---- for each test
 
 says_so : (judge : Judge) → Decides judge (SaysSo judge)
@@ -333,6 +345,9 @@ says_so judge = record { yes = λ managed sites past index net e. e; no = λ man
 
 pub audits_tell : AuditsTell
 audits_tell judge told fits = tells judge (SaysSo judge) (says_so judge) told fits
+
+pub verdicts_said : VerdictsAreSaid
+verdicts_said judge text told spelled = said judge (SaysSo judge) (says_so judge) text told spelled
 
 pub one_verdict : VerdictsAreOne
 one_verdict judge told fits = has_one judge (SaysSo judge) (says_so judge) told fits

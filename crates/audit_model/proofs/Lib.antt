@@ -3,3 +3,4 @@ mod LinesWalked
 mod LivesWalked
 mod FirstLacking
 pub mod Found
+pub mod CallsTold

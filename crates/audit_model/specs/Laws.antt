@@ -2,14 +2,15 @@
 use Rattle.std.specs.Prelude.{◌≡◌, ℕ, true, length, Some, None, List}
 use Rattle.net_types.specs.declared.address.Net.{Net}
 use Rattle.net_types.specs.declared.interface.IfIndex.{IfIndex}
+use Rattle.net_types.specs.FirstBadLine.{IsSpelled}
 use Rattle.world.specs.declared.rows.HostRow.{HostRow}
 use Rattle.settings.specs.declared.interfaces.Managed.{Managed}
 use Rattle.evidence_words.specs.Entries.{Entry}
 use Rattle.evidence_words.specs.Inputs.{Site}
 use Rattle.transcript_model.specs.Told.{Told, body_lines}
-use Rattle.transcript_model.specs.Transcripts.{FitsBody}
+use Rattle.transcript_model.specs.Transcripts.{FitsBody, SpellsTold}
 use Rattle.transcript_read.specs.Bodies.{followed}
-use Rattle.audit_model.specs.Verdicts.{BasisWord, Justified, FirstUnjust, turns_told}
+use Rattle.audit_model.specs.Verdicts.{BasisWord, Justified, FirstUnjust, IsYes, IsNo, turns_told}
 use Rattle.audit_model.specs.Auditing.{Judge, Auditing, Unjust, after, first}
 
 -- a test says of each address whether it has its basis
@@ -41,6 +42,15 @@ pub record IsAudited (Rests : BasisWord) (told : Told) (end : Auditing) : Type 0
 
 abbrev pub AuditsTell : Type 0
 AuditsTell = (judge : Judge) (told : Told) → FitsBody told.body → IsAudited (SaysSo judge) told (audited judge told)
+
+-- What is kept at the end of a text that is a transcript says one of the two verdicts on it.
+pub record SaysVerdict (Rests : BasisWord) (text : List ℕ) (end : Auditing) : Type 0 where
+  pub yes : end.unjust ≡ None → IsYes Rests text end.lives end.turns
+  pub no : (unjust : Unjust) → end.unjust ≡ Some unjust → IsNo Rests text unjust.life unjust.turn unjust.row
+
+abbrev pub VerdictsAreSaid : Type 0
+VerdictsAreSaid = (judge : Judge) (text : List ℕ) (told : Told) → IsSpelled SpellsTold text told
+    → SaysVerdict (SaysSo judge) text (audited judge told)
 
 -- A transcript has one verdict: all addresses have their basis, or one of them is the first that has none.
 pub record HasOneVerdict (Rests : BasisWord) (told : Told) : Type 0 where

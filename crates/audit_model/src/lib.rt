@@ -4,4 +4,4 @@
 
 mod laws;
 
-pub use laws::{audits_tell_verdicts, verdicts_are_one};
+pub use laws::{audits_tell_verdicts, lives_are_told_so, verdicts_are_one};
