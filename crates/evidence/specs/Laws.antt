@@ -32,7 +32,7 @@ use Rattle.lease_evidence.specs.KeptBasis4.{KeptBasis4}
 use Rattle.lease_evidence.specs.LeaseBasis.{LeaseBasis}
 use Rattle.lease6_evidence.specs.HeldItems.{ItemRests}
 use Rattle.lease6_evidence.specs.ItemBasis.{AddressBasis}
-use Rattle.lease6_evidence.specs.KeptBasis6.{KeptAddress6}
+use Rattle.lease6_evidence.specs.KeptBasis6.{KeptAddress6, KeptBasis6}
 use Rattle.v6_client.specs.declared.settings.IaAsk.{IaAsk}
 
 -- a lease gives the address, now
@@ -47,12 +47,16 @@ LeasedBasis6 site net past = AddressBasis site net (now_in past) past
 abbrev pub KeptBasis : Site → Net → List Entry → Type 0
 KeptBasis site net past = KeptBasis4 site net (now_in past) past ⊎ KeptAddress6 site net (now_in past) past
 
--- Why an address may be held, in what was shown: as a static address, as a link-local one, for a lease of DHCPv4 or of
--- DHCPv6 that a server gave, or for one that was kept.
-abbrev pub Basis : Site → Net → List Entry → Type 0
-Basis site net past =
+-- Why an address may be held, in what was shown: as a static address, as a link-local one, for a lease of DHCPv4, for
+-- one of DHCPv6, where `Leased6` says which addresses such leases give, or for a lease that was kept.
+abbrev pub BasisWith : (Leased6 : Site → Net → List Entry → Type 0) → Site → Net → List Entry → Type 0
+BasisWith Leased6 site net past =
     StaticBasis site net past ⊎ (LinkLocalBasis site net past
-    ⊎ (LeasedBasis site net past ⊎ (LeasedBasis6 site net past ⊎ KeptBasis site net past)))
+    ⊎ (LeasedBasis site net past ⊎ (Leased6 site net past ⊎ KeptBasis site net past)))
+
+-- the leases are those that a server gave
+abbrev pub Basis : Site → Net → List Entry → Type 0
+Basis site net past = BasisWith LeasedBasis6 site net past
 
 -- The same, with the stronger fact on link-local addresses.
 abbrev pub StrongestBasis : Site → Net → List Entry → Type 0
@@ -77,20 +81,45 @@ site_of managed specs opening m = record {
   kept6 = kept6_shown opening.calls m;
 }
 
--- The address is on a managed interface and has a basis of this kind there.
-pub record HasBasisOf (Kind : Site → Net → List Entry → Type 0) (managed : List Managed) (specs : List IfSpec)
-    (opening : OpeningMet) (mets : List Met) (index : IfIndex) (net : Net) : Type 0 where
+-- The address is on a managed interface and has a basis of this kind there, in what was shown.
+pub record HasBasisAmong (Kind : Site → Net → List Entry → Type 0) (managed : List Managed) (sites : Managed → Site)
+    (past : List Entry) (index : IfIndex) (net : Net) : Type 0 where
   pub holder : Managed
   pub among : Contains managed holder
   pub is_here : index ≡ holder.spec.index
-  pub basis : Kind (site_of managed specs opening holder) net (shown_of opening mets)
+  pub basis : Kind (sites holder) net past
 
 -- The address is one of a prefix that is delegated to a managed interface, and has its basis there.
-pub record HasShareBasisOf (Kind : Site → IaAsk → Net6 → (now : ℕ) → List Entry → Type 0) (managed : List Managed)
-    (specs : List IfSpec) (opening : OpeningMet) (mets : List Met) (index : IfIndex) (net : Net) : Type 0 where
+pub record HasShareAmong (Kind : Site → IaAsk → Net6 → (now : ℕ) → List Entry → Type 0) (managed : List Managed)
+    (sites : Managed → Site) (past : List Entry) (index : IfIndex) (net : Net) : Type 0 where
   pub upstream : Managed
   pub among : Contains managed upstream
-  pub basis : ShareBasisOf Kind (site_of managed specs opening upstream) index net (shown_of opening mets)
+  pub basis : ShareBasisOf Kind (sites upstream) index net past
+
+-- an item that a lease of this kind has, or one of a lease that was kept
+abbrev pub RestsWith : (Item6 : Site → IaAsk → Net6 → (now : ℕ) → List Entry → Type 0) → Site → IaAsk → Net6
+    → (now : ℕ) → List Entry → Type 0
+RestsWith Item6 site ask net now past = Item6 site ask net now past ⊎ KeptBasis6 site ask net now past
+
+-- It has its basis on the interface itself, or on the one upstream, where this says which addresses and which items
+-- the leases of DHCPv6 give.
+abbrev pub HasBasisIn : (Leased6 : Site → Net → List Entry → Type 0)
+    → (Item6 : Site → IaAsk → Net6 → (now : ℕ) → List Entry → Type 0)
+    → List Managed → (Managed → Site) → List Entry → IfIndex → Net → Type 0
+HasBasisIn Leased6 Item6 managed sites past index net =
+    HasBasisAmong (BasisWith Leased6) managed sites past index net
+    ⊎ HasShareAmong (RestsWith Item6) managed sites past index net
+
+-- in a life of some turns
+abbrev pub HasBasisOf : (Kind : Site → Net → List Entry → Type 0) → List Managed → List IfSpec → OpeningMet → List Met
+    → IfIndex → Net → Type 0
+HasBasisOf Kind managed specs opening mets index net =
+    HasBasisAmong Kind managed (site_of managed specs opening) (shown_of opening mets) index net
+
+abbrev pub HasShareBasisOf : (Kind : Site → IaAsk → Net6 → (now : ℕ) → List Entry → Type 0) → List Managed
+    → List IfSpec → OpeningMet → List Met → IfIndex → Net → Type 0
+HasShareBasisOf Kind managed specs opening mets index net =
+    HasShareAmong Kind managed (site_of managed specs opening) (shown_of opening mets) index net
 
 abbrev pub HasShareBasis : List Managed → List IfSpec → OpeningMet → List Met → IfIndex → Net → Type 0
 HasShareBasis managed specs opening mets index net = HasShareBasisOf ItemRests managed specs opening mets index net

@@ -1,0 +1,5 @@
+pub mod Showing
+pub mod Verdicts
+pub mod Auditing
+pub mod Laws
+pub mod LivesTold
