@@ -105,7 +105,7 @@ module _ (address : Ip4) where
 
   -- ---- the messages of a turn
 
-  over_all : (messages : List (Option Sent4)) → said_all address messages Over ≡ Over
+  pub over_all : (messages : List (Option Sent4)) → said_all address messages Over ≡ Over
   over_all [] = refl
   over_all (None ∷ messages) = over_all messages
   over_all (Some sent ∷ messages) = over_all messages

@@ -50,7 +50,7 @@ is_known_by xid sent h =
 -- ---- the messages of a turn
 
 module _ (at : ℕ) where
-  over_all : (messages : List (Option Sent6)) → said6_all at messages Over ≡ Over
+  pub over_all : (messages : List (Option Sent6)) → said6_all at messages Over ≡ Over
   over_all [] = refl
   over_all (None ∷ messages) = over_all messages
   over_all (Some sent ∷ messages) = over_all messages

@@ -81,6 +81,12 @@ answer_in site e (Some opened) = reply_at site opened.exchange e
 abbrev pub answer_at : Site → Entry → List Entry → Answer4
 answer_at site e past = answer_in site e (seen_in site (e ∷ past)).current
 
+-- nothing that is said or heard matters any more
+abbrev pub is_over4 : Asked4 → Bool
+is_over4 Nothing = false
+is_over4 (Again xid confirmed) = false
+is_over4 Over = true
+
 -- ---- turn by turn
 
 -- Where the carrier goes, the lease is given back or a stop comes, it is over.

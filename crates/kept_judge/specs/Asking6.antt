@@ -77,6 +77,12 @@ is_good_in site (Some opened) (Some message) = answers site opened.exchange mess
 abbrev pub has_reply : Site → Entry → List Entry → Bool
 has_reply site e past = is_good_in site (seen6_in site (e ∷ past)).current (message6_at site e)
 
+-- nothing that is said or heard matters any more
+abbrev pub is_over6 : Asked6 → Bool
+is_over6 Nothing = false
+is_over6 (Again xid since) = false
+is_over6 Over = true
+
 -- ---- turn by turn
 
 -- Where the carrier goes, the lease is given back or a stop comes, it is over.

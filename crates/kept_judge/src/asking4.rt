@@ -1,12 +1,12 @@
 //! A turn of an interface that asks for its kept lease of DHCPv4 (RFC 2131, sections 3.2 and 4.3.2).
 
-ghost use Rattle.std.specs.Prelude.{◌≡◌, List, [], ◌∷◌};
+ghost use Rattle.std.specs.Prelude.{◌≡◌, true, List, [], ◌∷◌};
 ghost use Rattle.evidence_words.specs.Entries as told;
 ghost use Rattle.lease_evidence.specs.Exchanges.{messages_at};
 ghost use Rattle.net_types.specs.Moments.{IsMoment};
 ghost use Rattle.lease_text.specs.Leases.{lease_content};
 ghost use Rattle.audit_words.specs.Shown.{FitsSite, entry_shown, site_shown};
-ghost use Rattle.kept_judge.specs.Asking4.{Tells4, answer_at, answered, asks_again, gives4, if_stays, is_asking4, is_kept4, is_net4, is_request, names_address, said_all, said_maybe, said_one, turned4};
+ghost use Rattle.kept_judge.specs.Asking4.{Tells4, answer_at, answered, asks_again, gives4, if_stays, is_asking4, is_kept4, is_net4, is_over4, is_request, names_address, said_all, said_maybe, said_one, turned4};
 
 use crate::standing::{Asked4, Kept4};
 use crate::staying::{carrier_after, stays};
@@ -168,6 +168,31 @@ impl Kept4 {
         Kept4 {
             up: carrier_after(index, event, self.up),
             asked: asked.said_all(address, messages).answered(said),
+        }
+    }
+
+    /// Whether the lease can't be held any more, whatever is said or heard.
+    pub fn is_over(&self) -> bool
+        ensures { result ≡ is_over4 self.now.asked }
+    {
+        match self.asked {
+            Asked4::Nothing => false,
+            Asked4::Again { .. } => false,
+            Asked4::Over => true,
+        }
+    }
+
+    /// After a further turn where it is over: nothing else is looked at.
+    #[tactic(auto, using(crate::proofs::Told4::rests_tells4))]
+    pub fn rests(self, site: &Site, entry: &Entry) -> Kept4
+        requires { is_over4 self.asked ≡ true }
+        ensures { (past : List told.Entry)
+            → Tells4 self (site_shown site.now) past
+            → Tells4 result (site_shown site.now) (entry_shown entry.now ∷ past) }
+    {
+        Kept4 {
+            up: carrier_after(site.index(), entry.event, self.up),
+            asked: Asked4::Over,
         }
     }
 

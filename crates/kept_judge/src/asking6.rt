@@ -1,11 +1,11 @@
 //! A turn of an interface that asks for its kept lease of DHCPv6 (RFC 8415, section 18.2.12).
 
-ghost use Rattle.std.specs.Prelude.{◌≡◌, ◌+◌, nat_lt, List, [], ◌∷◌, map, option_map};
+ghost use Rattle.std.specs.Prelude.{◌≡◌, ◌+◌, true, nat_lt, List, [], ◌∷◌, map, option_map};
 ghost use Rattle.v6_client.specs.declared.times.TheConstants as own;
 ghost use Rattle.evidence_words.specs.Entries as told;
 ghost use Rattle.lease6_evidence.specs.Exchanges6.{messages6_at};
 ghost use Rattle.audit_words.specs.Shown.{entry_shown, site_shown};
-ghost use Rattle.kept_judge.specs.Asking6.{Tells6, has_reply, if_stays6, is_asking6, is_rebind, said6_one, spoken_all, spoken_maybe, spoken_of, turned6, unless_replied};
+ghost use Rattle.kept_judge.specs.Asking6.{Tells6, has_reply, if_stays6, is_asking6, is_over6, is_rebind, said6_one, spoken_all, spoken_maybe, spoken_of, turned6, unless_replied};
 
 use crate::standing::{Asked6, Kept6, Spoken6};
 use crate::staying::{carrier_after, stays};
@@ -123,6 +123,30 @@ impl Kept6 {
             asked: asked
                 .said_all(entry.moment, messages)
                 .unless_replied(replied),
+        }
+    }
+
+    /// Whether the lease can't be held any more, whatever is said or heard.
+    pub fn is_over(&self) -> bool
+        ensures { result ≡ is_over6 self.now.asked }
+    {
+        match self.asked {
+            Asked6::Nothing => false,
+            Asked6::Again { .. } => false,
+            Asked6::Over => true,
+        }
+    }
+
+    /// After a further turn where it is over: nothing else is looked at.
+    pub fn rests(self, site: &Site, entry: &Entry) -> Kept6
+        requires { is_over6 self.asked ≡ true }
+        ensures { (past : List told.Entry)
+            → Tells6 self (site_shown site.now) past
+            → Tells6 result (site_shown site.now) (entry_shown entry.now ∷ past) }
+    {
+        Kept6 {
+            up: carrier_after(site.index(), entry.event, self.up),
+            asked: Asked6::Over,
         }
     }
 
