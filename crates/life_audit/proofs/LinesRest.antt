@@ -1,5 +1,5 @@
 -- After the opening of a life and after each of its turns, what the lines show is justified.
-use Rattle.std.proofs.Common.{◌≡◌, ◌<◌, ◌^◌, ℕ, true, false, List, [], ◌∷◌, ◌++◌, map, flat_map, Some, None, refl, sym, ap, subst, ◌∙◌, append_assoc, arith}
+use Rattle.std.proofs.Common.{◌≡◌, ◌<◌, ◌^◌, ℕ, Bool, true, false, ◌||◌, if◌then◌else◌, List, [], ◌∷◌, ◌++◌, map, flat_map, Some, None, refl, sym, ap, subst, ◌∙◌, append_assoc, arith}
 use Rattle.std.specs.List.{AllByRecursion}
 use Rattle.net_types.specs.Marks.{AreBytes}
 use Rattle.net_types.specs.declared.address.Mac.{Mac}
@@ -19,11 +19,11 @@ use Rattle.host_model.specs.HostTable.{InRowOrder, NoneFails}
 use Rattle.client_model.specs.Clients.{rows_of}
 use Rattle.device_calls.specs.Worlds.{Ran, World}
 use Rattle.turn_model.specs.FilesInLife.{AreNamedApart}
-use Rattle.turn_model.specs.Foretold.{met_of, opening_of, ran_opening, ran_turn, told_bytes, told_wake, woken}
+use Rattle.turn_model.specs.Foretold.{met_of, opening_of, ran_opening, ran_turn, told_bytes, told_turns, told_wake, woken}
 use Rattle.turn_model.specs.HostInLife.{Running, life_run, running_after, running_opened, running_turned, table_of}
 use Rattle.turn_model.specs.Lives.{Met, OpeningMet, hold_lines, life_after}
 use Rattle.turn_model.specs.Opening.{opening_asks, opening_step}
-use Rattle.turn_model.specs.Turns.{Life, step_of, turn_asks, until}
+use Rattle.turn_model.specs.Turns.{Life, is_end, is_over, step_of, turn_asks, until}
 use Rattle.turn_model.proofs.Acting.{opening_acts, ran_loading, turn_acts}
 use Rattle.turn_model.proofs.HostInLifeTurns.{Sound, lived_sound}
 use Rattle.evidence.specs.HeldAddresses.{RestOnEvidence, mets_of}
@@ -41,7 +41,7 @@ use Rattle.audit_model.specs.Showing.{Shown, read_in_line, shown_at_first, shown
 use Rattle.audit_model.specs.Verdicts.{IsJust, IsShown}
 use Rattle.audit_model.specs.LivesTold.{has_failed, life_lived, only_last, turn_lived, turns_lived}
 use Rattle.audit_model.proofs.CallsTold.{TellNothing, entries_of, entry_same, first_same, last_tells, lines_tell, lives_told_so}
-use Rattle.life_audit.specs.Laws.{HeldBasis, LinesRestOnEvidence}
+use Rattle.life_audit.specs.Laws.{HeldBasis, LinesRestOnEvidence, ShowsJustly, meets_all, meets_told}
 use Rattle.life_audit.proofs.HostShown.{HostShows, shows_host}
 
 one_more : (managed : List Managed) (turns : List Given) (running : Running) (given : Given)
@@ -195,7 +195,7 @@ module _ (managed : List Managed) (specs : List IfSpec) (world : World) (fit : A
       (fronts_just held coming more (shown_next shown (turn_lived met closing)) next all front rest
       (ap (λ r. turns_lived (mets_of managed r coming) (hold_lines held)) (one_more managed turns began given) ∙ same_tail split))
 
-pub lines_rest : LinesRestOnEvidence
+pub lines_rest : LinesRestOnEvidence meets_all
 lines_rest managed specs world coming fit shares others numbered named octets order early front rest split =
     let opening : OpeningMet = opening_of managed specs world in
     let mets : List Met = mets_of managed (running_opened managed specs world) coming in
@@ -206,3 +206,42 @@ lines_rest managed specs world coming fit shares others numbered named octets or
     fronts_just managed specs world fit shares others numbered named order sites same (rows_of (life_after opening.life mets).client) coming []
     (shown_at_first (life_lived opening mets)) (at_first managed specs world fit shares others numbered named order sites same coming early) octets front rest
     split
+
+-- ---- up to the end of the life
+
+-- the turns that a life handles
+abbrev handled : List Managed → Running → List Given → List Given
+handled managed running [] = []
+handled managed running (given ∷ coming) =
+    if is_over running.life || is_end given.wake.event then [] else given ∷ handled managed (running_turned managed running given) coming
+
+handled_met : (managed : List Managed) (running : Running) (coming : List Given)
+    → told_turns managed running.life running.world coming ≡ mets_of managed running (handled managed running coming)
+handled_met managed running [] = refl
+handled_met managed running (given ∷ coming) =
+    which (is_over running.life || is_end given.wake.event) (handled_met managed (running_turned managed running given) coming)
+  where
+    which : (ends : Bool) → told_turns managed (running_turned managed running given).life (running_turned managed running given).world coming
+        ≡ mets_of managed (running_turned managed running given) (handled managed (running_turned managed running given) coming)
+        → (if ends then [] else met_of given (ran_turn managed running.life running.world given)
+        ∷ told_turns managed (running_turned managed running given).life (running_turned managed running given).world coming)
+        ≡ mets_of managed running (if ends then [] else given ∷ handled managed (running_turned managed running given) coming)
+    which true same = refl
+    which false same = ap (λ mets. met_of given (ran_turn managed running.life running.world given) ∷ mets) same
+
+handled_bytes : (managed : List Managed) (running : Running) (coming : List Given) → AllByRecursion (λ (g : Given). AreBytes g.bytes) coming
+    → AllByRecursion (λ (g : Given). AreBytes g.bytes) (handled managed running coming)
+handled_bytes managed running [] all = tt
+handled_bytes managed running (given ∷ coming) all =
+    which (is_over running.life || is_end given.wake.event) (handled_bytes managed (running_turned managed running given) coming all.1)
+  where
+    which : (ends : Bool) → AllByRecursion (λ (g : Given). AreBytes g.bytes) (handled managed (running_turned managed running given) coming)
+        → AllByRecursion (λ (g : Given). AreBytes g.bytes) (if ends then [] else given ∷ handled managed (running_turned managed running given) coming)
+    which true later = tt
+    which false later = (all.0, later)
+
+pub told_lines_rest : LinesRestOnEvidence meets_told
+told_lines_rest managed specs world coming fit shares others numbered named octets order early =
+    let began : Running = running_opened managed specs world in
+    subst (λ mets. ShowsJustly managed specs (opening_of managed specs world) mets) (sym (handled_met managed began coming))
+    (lines_rest managed specs world (handled managed began coming) fit shares others numbered named (handled_bytes managed began coming octets) order early)
