@@ -1,5 +1,5 @@
 -- The test of announcements tells whether another address was announced.
-use Rattle.std.proofs.Common.{◌≡◌, ℕ, ◌+◌, ◌-◌, ◌<◌, ◌^◌, Bool, true, false, not, ◌&&◌, List, [], ◌∷◌, ◌++◌, length, drop, take, refl, sym, subst, ap, ◌∙◌, append_assoc, length-append, arith}
+use Rattle.std.proofs.Common.{◌≡◌, ℕ, ◌<◌, ◌^◌, Bool, true, false, not, ◌&&◌, List, refl, sym, subst, ap, ◌∙◌, arith}
 use Rattle.std.proofs.lemmas.Bool.Decides.{nat_tests}
 use Rattle.std.proofs.lemmas.Nat.{from_be_bytes-to_be_bytes_4}
 use Rattle.std.proofs.lemmas.Slice.Eq.{bytes_eq-Decides}
@@ -9,53 +9,23 @@ use Rattle.std.specs.List.{list_any}
 use Rattle.net_types.specs.declared.address.Ip4.{Ip4}
 use Rattle.net_types.specs.declared.address.Mac.{Mac}
 use Rattle.net_types.specs.AddressText.{FitsIp4}
-use Rattle.frame_link.specs.Fields.{word_text, ip4_text}
-use Rattle.frame_link.specs.Frames.{broadcast}
-use Rattle.frame_link.specs.Packets.{arp_kind, no_mac, announcement_text}
+use Rattle.frame_link.specs.Fields.{ip4_text}
+use Rattle.frame_link.specs.Packets.{announcement_text}
 use Rattle.lease6_text.proofs.Apart.{none_passes, passes_none}
 use Rattle.evidence_words.specs.Entries.{Offer, Entry}
 use Rattle.evidence_words.specs.Inputs.{Site, offers_at}
 use Rattle.local_evidence.specs.LinkLocalBasis.{AnnouncesNoOther, IsAlone}
-use Rattle.local_judge.specs.Choices.{target_in, announces_other, is_alone}
+use Rattle.local_judge.specs.Choices.{announces_other, is_alone}
+use Rattle.probe_table.specs.Targets.{target_in}
+use Rattle.probe_table.proofs.Requests.{same_address, target_bytes}
 
 -- ---- the last four bytes of an announcement
 
-behind : (front last : List ℕ) → drop (length front) (front ++ last) ≡ last
-behind [] last = refl
-behind (x ∷ front) last = behind front last
-
-abbrev packet_head : List ℕ
-packet_head = word_text 1 ++ word_text 0x0800 ++ (6 ∷ 4 ∷ []) ++ word_text 1
-
-abbrev front_of : Mac → Ip4 → List ℕ
-front_of mac addr =
-    broadcast.bytes ++ ((mac.bytes ++ word_text arp_kind) ++ (packet_head ++ ((mac.bytes ++ ip4_text addr) ++ no_mac.bytes)))
-
-bracketed : (a b c d last : List ℕ) → (a ++ (b ++ (c ++ d))) ++ last ≡ a ++ (b ++ (c ++ (d ++ last)))
-bracketed a b c d last = simp append_assoc
-
-in_two : (mac : Mac) (addr : Ip4) → front_of mac addr ++ ip4_text addr ≡ announcement_text mac addr
-in_two mac addr =
-    bracketed broadcast.bytes (mac.bytes ++ word_text arp_kind) packet_head ((mac.bytes ++ ip4_text addr) ++ no_mac.bytes) (ip4_text addr)
-
-abbrev number_after : List ℕ → ℕ → ℕ
-number_after bytes at = from_be_bytes w32 (take 4 (drop at bytes))
-
-long : (front : List ℕ) (addr : Ip4) → length (front ++ ip4_text addr) - 4 ≡ length front
-long front addr = let sum : length (front ++ ip4_text addr) ≡ length front + length (ip4_text addr) = length-append front (ip4_text addr) in omega (arith, sum)
-
-last_number : (front : List ℕ) (addr : Ip4) → (target_in (front ++ ip4_text addr)).number ≡ from_be_bytes w32 (ip4_text addr)
-last_number front addr =
-    ap (λ at. number_after (front ++ ip4_text addr) at) (long front addr) ∙ ap (λ bytes. from_be_bytes w32 (take 4 bytes)) (behind front (ip4_text addr))
-
 target_number : (mac : Mac) (addr : Ip4) → (target_in (announcement_text mac addr)).number ≡ from_be_bytes w32 (ip4_text addr)
-target_number mac addr = subst (λ bytes. (target_in bytes).number ≡ from_be_bytes w32 (ip4_text addr)) (in_two mac addr) (last_number (front_of mac addr) addr)
+target_number mac addr = target_bytes mac addr addr
 
 four_fit : (n : ℕ) → from_be_bytes w32 (to_be_bytes w32 n) < 2 ^ 32
 four_fit n = omega arith
-
-same_address : (a b : Ip4) → a.number ≡ b.number → a ≡ b
-same_address a b e = ap (λ n. record { number = n }) e
 
 -- ---- one frame
 

@@ -7,7 +7,7 @@ use Rattle.world.specs.declared.wakes.Event.TheVariants.{Frame, Carrier, Duplica
 use Rattle.evidence_words.specs.Entries.{Entry}
 use Rattle.evidence_words.specs.Inputs.{Site, index_at, has_carrier, GoesOn, StaysOn}
 use Rattle.evidence_words.specs.Probed.{TurnWord}
-use Rattle.local_judge.specs.ProbeTimes.{TurnTest}
+use Rattle.probe_table.specs.ProbeTimes.{TurnTest}
 use Rattle.local_judge.specs.Choices.{goes_on, is_calm}
 
 -- a test tells a word

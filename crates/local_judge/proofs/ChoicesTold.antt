@@ -12,8 +12,10 @@ use Rattle.evidence_words.specs.Entries.{Entry}
 use Rattle.evidence_words.specs.Inputs.{Site, uses, StaysOn}
 use Rattle.evidence_words.specs.Probed.{Probes, EachAfter}
 use Rattle.local_evidence.specs.LinkLocalBasis.{Anything, IsAlone, UsesApart, LinkLocalBasis}
-use Rattle.local_judge.specs.ProbeTimes.{only_if}
-use Rattle.local_judge.specs.Choices.{Choice, ChoiceTurn, is_calm, is_alone, is_apart, chosen_at, defended, kept_choice, choice_after, choice_turn, choice_in}
+use Rattle.probe_table.specs.ProbeTimes.{only_if}
+use Rattle.local_judge.specs.Choices.{is_calm, is_alone, is_apart, chosen_at, defended, kept_choice, choice_after, choice_turn, choice_in}
+use Rattle.local_judge.specs.declared.choices.Choice.{Choice}
+use Rattle.local_judge.specs.declared.choices.ChoiceTurn.{ChoiceTurn}
 use Rattle.local_judge.specs.Laws.{BasisSince, ChoicesAreTold}
 use Rattle.local_judge.proofs.Moments.{at_most, tested, both, parts}
 use Rattle.local_judge.proofs.Calmness.{calm_tells}

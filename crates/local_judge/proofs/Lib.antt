@@ -3,3 +3,6 @@ pub mod ProbesTold
 mod Moments
 mod Announcing
 mod ChoicesTold
+mod AnnouncedOnly
+mod Turns
+mod Telling

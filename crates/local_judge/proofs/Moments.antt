@@ -1,7 +1,7 @@
 -- Moments that may be there: the earlier one of two is so long ago exactly where one of them is.
 use Rattle.std.proofs.Common.{◌≡◌, ℕ, ◌+◌, ◌≤◌, Bool, true, false, ◌&&◌, ◌⊎◌, inl, inr, nat_le, if◌then◌else◌, Option, Some, None, refl, arith}
 use Rattle.std.proofs.lemmas.Bool.Decides.{nat_tests}
-use Rattle.local_judge.specs.ProbeTimes.{earlier_of, only_if, is_past}
+use Rattle.probe_table.specs.ProbeTimes.{earlier_of, only_if, is_past}
 
 pub at_most : (m n : ℕ) → nat_le m n ≡ true → m ≤ n
 at_most m n h = grind (arith, nat_tests)

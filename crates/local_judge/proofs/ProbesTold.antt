@@ -5,7 +5,8 @@ use Rattle.evidence_words.specs.Entries.{Entry}
 use Rattle.evidence_words.specs.Inputs.{Site, offers_at, contests, StaysOn}
 use Rattle.evidence_words.specs.Probed.{TurnWord, AsProbe, Probes, probe_taken}
 use Rattle.local_evidence.specs.LinkLocalBasis.{Anything}
-use Rattle.local_judge.specs.ProbeTimes.{TurnTest, ProbeTimes, earlier_of, only_if, is_past, probe_turn, last_probe, times_after, times_in}
+use Rattle.probe_table.specs.ProbeTimes.{TurnTest, earlier_of, only_if, is_past, probe_turn, last_probe, times_after, times_in}
+use Rattle.probe_table.specs.declared.times.ProbeTimes.{ProbeTimes}
 use Rattle.local_judge.specs.Choices.{is_calm}
 use Rattle.local_judge.specs.Laws.{ProbesAreTold}
 use Rattle.local_judge.proofs.Moments.{at_most, tested, either_past, one_past, other_past, counted, counts, both, parts}

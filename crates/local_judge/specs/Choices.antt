@@ -1,16 +1,19 @@
 -- Whether the choice of a link-local address stands (RFC 3927, sections 2.2.1 and 2.5), kept turn by turn. Moments are
 -- in milliseconds since 1970.
-use Rattle.std.specs.Prelude.{ℕ, ◌+◌, ◌-◌, Bool, true, false, not, ◌&&◌, ◌||◌, ◌==◌, nat_le, if◌then◌else◌, List, [], ◌∷◌, length, bytes_eq, Option, Some, None, option_and_then}
+use Rattle.std.specs.Prelude.{ℕ, ◌+◌, Bool, true, false, not, ◌&&◌, ◌||◌, ◌==◌, nat_le, if◌then◌else◌, List, [], ◌∷◌, bytes_eq, Option, Some, None, option_and_then}
 use Rattle.std.specs.List.{list_any}
 use Rattle.net_types.specs.declared.address.Ip4.{Ip4}
 use Rattle.net_types.specs.declared.address.Mac.{Mac}
-use Rattle.frame_link.specs.Fields.{ip4_in}
 use Rattle.frame_link.specs.Packets.{announcement_text}
 use Rattle.world.specs.declared.wakes.Event.{Event}
 use Rattle.world.specs.declared.wakes.Event.TheVariants.{Carrier, Release, Stop}
 use Rattle.evidence_words.specs.Entries.{Entry}
 use Rattle.evidence_words.specs.Inputs.{Site, index_at, offers_at, has_carrier, uses}
-use Rattle.local_judge.specs.ProbeTimes.{TurnTest, only_if, is_past, times_in}
+use Rattle.probe_table.specs.ProbeTimes.{TurnTest, only_if, is_past, times_in}
+use Rattle.probe_table.specs.Targets.{target_in}
+use Rattle.probe_table.specs.declared.times.ProbeTimes.{ProbeTimes}
+use Rattle.local_judge.specs.declared.choices.Choice.{Choice}
+use Rattle.local_judge.specs.declared.choices.ChoiceTurn.{ChoiceTurn}
 
 -- no carrier is taken from an interface that has it, nothing of it is given back, and no stop comes
 abbrev pub goes_on : (up : Bool) → ℕ → Event → Bool
@@ -23,10 +26,6 @@ goes_on up index _ = true
 abbrev pub is_calm : Site → TurnTest
 is_calm site e past = goes_on (has_carrier site past) (index_at site) e.event
 
--- the address in the last four bytes of a frame: in an ARP packet it is the target's
-abbrev pub target_in : List ℕ → Ip4
-target_in bytes = ip4_in bytes (length bytes - 4)
-
 -- whether a frame announces another address
 abbrev pub announces_other : Mac → Ip4 → List ℕ → Bool
 announces_other mac addr bytes =
@@ -34,20 +33,6 @@ announces_other mac addr bytes =
 
 abbrev pub is_alone : Site → Ip4 → Entry → Bool
 is_alone site addr e = not (list_any (λ o. announces_other site.managed.spec.mac addr o.bytes) (offers_at site e))
-
--- A choice that stands: the moment of the newest turn that may be its fourth one, and that of the newest use by another
--- host since.
-pub record Choice : Type 0 where
-  pub since : ℕ
-  pub used : Option ℕ
-
--- what a turn is to a chosen address: whether the choice may stand in it, whether the turn may be the fourth one, and
--- whether another host uses the address
-pub record ChoiceTurn : Type 0 where
-  pub moment : ℕ
-  pub fits : Bool
-  pub fourth : Bool
-  pub used : Bool
 
 -- whether a use comes ten seconds or more after the one before it
 abbrev pub is_apart : (before : Option ℕ) → (now : ℕ) → Bool
@@ -71,13 +56,18 @@ choice_after turn choice =
     then (if turn.fourth then Some (chosen_at turn) else option_and_then (kept_choice turn) choice)
     else None
 
-abbrev pub choice_turn : Site → Ip4 → Entry → (past : List Entry) → ChoiceTurn
-choice_turn site addr e past = record {
+-- what a turn is to an address, where it is told whether the turn is calm, and how far the address was probed before it
+abbrev pub turn_for : (calm : Bool) → Site → Ip4 → Entry → ProbeTimes → ChoiceTurn
+turn_for calm site addr e times = record {
   moment = e.moment;
-  fits = is_calm site e past && is_alone site addr e;
-  fourth = is_past 2000 (times_in (is_calm site) site addr past).third e.moment;
+  fits = calm && is_alone site addr e;
+  fourth = is_past 2000 times.third e.moment;
   used = uses site addr e;
 }
+
+abbrev pub choice_turn : Site → Ip4 → Entry → (past : List Entry) → ChoiceTurn
+choice_turn site addr e past =
+    turn_for (is_calm site e past) site addr e (times_in (is_calm site) site addr past)
 
 -- the choice of an address, where it stands
 abbrev pub choice_in : Site → Ip4 → List Entry → Option Choice

@@ -9,8 +9,9 @@ use Rattle.evidence_words.specs.Entries.{Entry}
 use Rattle.evidence_words.specs.Inputs.{Site, StaysOn}
 use Rattle.evidence_words.specs.Probed.{Probes}
 use Rattle.local_evidence.specs.LinkLocalBasis.{Anything, LinkLocalBasis}
-use Rattle.local_judge.specs.ProbeTimes.{is_past, times_in}
-use Rattle.local_judge.specs.Choices.{Choice, is_calm, choice_in}
+use Rattle.probe_table.specs.ProbeTimes.{is_past, times_in}
+use Rattle.local_judge.specs.Choices.{is_calm, choice_in}
+use Rattle.local_judge.specs.declared.choices.Choice.{Choice}
 
 -- So many probes were taken, the last of them so long ago, exactly where the moment that is kept is so long ago.
 pub record AreTold (site : Site) (addr : Ip4) (past : List Entry) (count wait now : ℕ) (kept : Option ℕ) : Type 0 where

@@ -1,3 +1,3 @@
-pub mod ProbeTimes
 pub mod Choices
+pub mod Judge
 pub mod Laws

@@ -1,3 +1,4 @@
+ghost use Rattle.local_judge.specs.Judge.{ChosenHaveBases};
 ghost use Rattle.local_judge.specs.Laws.{ChoicesAreTold, ProbesAreTold};
 
 /// Law: a link-local address has its basis exactly where its choice stands in what is kept of it turn by turn
@@ -10,4 +11,10 @@ pub fn choices_are_told()
 /// where the earliest moment of a last such probe is so long ago.
 pub fn probes_are_told()
     ensures { ProbesAreTold }
+{}
+
+/// Law: an address stands as one that was chosen exactly where it has the basis of a link-local one (RFC 3927, sections
+/// 2.2.1 and 2.5).
+pub fn chosen_have_bases()
+    ensures { ChosenHaveBases }
 {}

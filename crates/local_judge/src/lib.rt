@@ -1,6 +1,11 @@
 //! What is kept of an address turn by turn, so that the basis of a link-local address can be told from it.
 #![tactic(auto)]
 
+mod announcements;
+mod choices;
+mod judge;
 mod laws;
 
-pub use laws::{choices_are_told, probes_are_told};
+pub use choices::{Choice, ChoiceTurn};
+pub use judge::{Chosen, LocalJudge};
+pub use laws::{choices_are_told, chosen_have_bases, probes_are_told};
