@@ -35,13 +35,13 @@ use Rattle.audit_model.specs.LivesTold.{LivesAreToldSo, failed_last, has_failed,
 -- ---- lines that tell nothing
 
 -- the lines are of no frame, no reading, and no call of the host
-record Tells (lines : List Line) (offers : List Offer) (reads : List StoreCall) (failed : Bool) (change : List HostRow → List HostRow) : Type 0 where
-  offers_are : flat_map offer_in_line lines ≡ offers
-  reads_are : flat_map read_in_line lines ≡ reads
-  failed_is : list_any is_failed lines ≡ failed
-  rows_are : (rows : List HostRow) → rows_after rows lines ≡ change rows
+pub record Tells (lines : List Line) (offers : List Offer) (reads : List StoreCall) (failed : Bool) (change : List HostRow → List HostRow) : Type 0 where
+  pub offers_are : flat_map offer_in_line lines ≡ offers
+  pub reads_are : flat_map read_in_line lines ≡ reads
+  pub failed_is : list_any is_failed lines ≡ failed
+  pub rows_are : (rows : List HostRow) → rows_after rows lines ≡ change rows
 
-abbrev TellNothing : List Line → Type 0
+abbrev pub TellNothing : List Line → Type 0
 TellNothing lines = Tells lines [] [] false (λ rows. rows)
 
 variables_tell : (vars : List Variable) → TellNothing (map variable_line vars)
@@ -67,10 +67,10 @@ listed_tell (row ∷ listed) =
 
 -- ---- a call
 
-abbrev reads_in : Call → List StoreCall
+abbrev pub reads_in : Call → List StoreCall
 reads_in call = flat_map read_in_line (lines_of call)
 
-abbrev rows_in : Call → List HostRow → List HostRow
+abbrev pub rows_in : Call → List HostRow → List HostRow
 rows_in call rows = rows_by_calls rows (host_call call)
 
 abbrev CallTells : Call → Type 0
@@ -112,7 +112,7 @@ rows_apart : (rows : List HostRow) (front back : List Line) → rows_after rows 
 rows_apart rows [] back = refl
 rows_apart rows (line ∷ front) back = rows_apart (rows_with line rows) front back
 
-calls_apart : (rows : List HostRow) (front back : List HostCall) → rows_by_calls rows (front ++ back) ≡ rows_by_calls (rows_by_calls rows front) back
+pub calls_apart : (rows : List HostRow) (front back : List HostCall) → rows_by_calls rows (front ++ back) ≡ rows_by_calls (rows_by_calls rows front) back
 calls_apart rows [] back = refl
 calls_apart rows (call ∷ front) back = calls_apart (rows_by rows call) front back
 
@@ -125,7 +125,7 @@ joined front back o p r s b c f g one two = record {
   rows_are = λ rows. rows_apart rows front back ∙ two.rows_are (rows_after rows front) ∙ ap g (one.rows_are rows);
 }
 
-abbrev reads_of : List Call → List StoreCall
+abbrev pub reads_of : List Call → List StoreCall
 reads_of calls = flat_map reads_in calls
 
 calls_tell : (calls : List Call)
@@ -148,7 +148,7 @@ calls_tell (call ∷ calls) =
         ∙ sym (list_any-append (λ c. not (is_done c)) (host_call call) (flat_map host_call calls))
 
 -- the lines of a turn or an opening, and those after the last turn
-lines_tell : (calls : List Call) (life : Life) (closing : List Line) → TellNothing closing
+pub lines_tell : (calls : List Call) (life : Life) (closing : List Line) → TellNothing closing
     → Tells (lines_by calls life ++ closing) (flat_map offer_in calls) (reads_of calls) (has_failed calls)
     (λ rows. rows_by_calls rows (flat_map host_call calls))
 lines_tell calls life closing none =
@@ -164,7 +164,7 @@ lines_tell calls life closing none =
       rows_are = all.rows_are;
     }
 
-last_tells : {T : Type 0} (later : List T) (rows : List HostRow) → TellNothing (only_last later (hold_lines rows))
+pub last_tells : {T : Type 0} (later : List T) (rows : List HostRow) → TellNothing (only_last later (hold_lines rows))
 last_tells [] rows = holds_tell rows
 last_tells (turn ∷ later) rows = record { offers_are = refl; reads_are = refl; failed_is = refl; rows_are = λ others. refl }
 
@@ -208,7 +208,7 @@ same_reads name (call ∷ calls) =
 
 -- ---- turns
 
-entry_same : (met : Met) (closing : List Line) → TellNothing closing → entry_told (turn_lived met closing) ≡ entry_of met
+pub entry_same : (met : Met) (closing : List Line) → TellNothing closing → entry_told (turn_lived met closing) ≡ entry_of met
 entry_same met closing none =
     λ i. record {
       moment = met.life.now;
@@ -218,7 +218,7 @@ entry_same met closing none =
     }
 
 -- all entries, the newest first
-abbrev entries_of : Shown → List Entry
+abbrev pub entries_of : Shown → List Entry
 entries_of shown = shown.entry ∷ shown.past
 
 turns_same : (held : List HostRow) (mets : List Met) (shown : Shown)
@@ -253,7 +253,7 @@ lines_same closing (met ∷ mets) =
     ∙ ap (λ lines. turn_lines met ++ lines) (lines_same closing mets)
     ∙ sym (append_assoc (turn_lines met) (flat_map turn_lines mets) closing)
 
-first_same : (opening : OpeningMet) (mets : List Met) → opening.life.now ≡ opening.begin.at
+pub first_same : (opening : OpeningMet) (mets : List Met) → opening.life.now ≡ opening.begin.at
     → opening_told (life_lived opening mets) ≡ opening_entry opening
 first_same opening mets begins =
     let rows : List HostRow = rows_of (life_after opening.life mets).client in

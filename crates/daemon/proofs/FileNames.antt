@@ -1,5 +1,5 @@
 -- The names of the files that a life keeps are names of files.
-use Rattle.std.proofs.Common.{ℕ, ◌≡◌, Bool, true, false, eqb, ◌&&◌, ◌||◌, List, [], ◌∷◌, ◌++◌, codes, take, refl, sym, subst, ◌∙◌}
+use Rattle.std.proofs.Common.{ℕ, ◌≡◌, Bool, true, false, eqb, ◌&&◌, ◌||◌, List, [], ◌∷◌, ◌++◌, codes, refl, sym, subst, ◌∙◌}
 use Rattle.std.specs.Prelude.{if◌then◌else◌, slice_index}
 use Rattle.std.specs.Char.{is_ascii_alphanumeric, is_ascii_digit, is_ascii_lowercase, is_ascii_uppercase}
 use Rattle.std.specs.List.{list_all}
@@ -51,11 +51,6 @@ with_end : (name : Name) (end : List ℕ) → FitsName name → list_all is_file
 with_end name end fits ends =
     list_all-append is_file_byte (name_text name) end
     ∙ and_so (list_all is_file_byte (name_text name)) (list_all is_file_byte end) (name_fits (name_text name) fits.spelled) ends
-
--- the bytes of a name are its text
-pub text_of_name : (name : Name) → take name.len name.bytes ≡ name_text name
-unfolding name_text
-text_of_name name = refl
 
 pub lease4_name_fits : (managed : Managed) (text : List ℕ) → FitsManaged managed → text ≡ lease4_file managed → IsFileName text
 lease4_name_fits managed text fits is = subst IsFileName (sym is) (with_end managed.spec.name (codes ".lease4") fits.name refl)

@@ -13,8 +13,6 @@ pub mod BegunFiles
 pub mod BegunTurns
 pub mod KeptFiles
 pub mod LoadedFiles
-pub mod SpelledLeases
-pub mod SpelledLeases6
 pub mod StopMoments
 pub mod TurnSteps
 pub mod Waitings

@@ -1,13 +1,12 @@
 //! The DUID of the host, by which servers tell its clients apart.
-ghost use Rattle.std.specs.Prelude.{◌≡◌, ◌≤◌, [], ◌∷◌, length, IfOk, option_map, option_and_then};
+ghost use Rattle.std.specs.Prelude.{◌≡◌, ◌≤◌, [], ◌∷◌, length, IfOk, option_map};
 ghost use Rattle.lease6_text.specs.Bounds.{IsDuid};
 ghost use Rattle.lease_file.specs.FileReads.{got_reading};
 ghost use Rattle.settings.specs.Dhcp4Settings.{identifier_in};
 ghost use Rattle.settings.specs.Fitting.{FitsManaged};
 ghost use Rattle.client_model.specs.ClientSettings6.{is_by_duid, needs_duid, some_need_duid};
-ghost use Rattle.client_model.specs.HostDuid.{duid_by, host_duid};
+ghost use Rattle.client_model.specs.HostDuid.{host_duid};
 
-use duid_text::{link_layer_duid, read_duid};
 use iface_core::{runs_dhcp4, runs_dhcp6};
 use lease_file::Got;
 use net_types::NoMemory;
@@ -62,35 +61,15 @@ fn duid_of(alloc: Global, bytes: &[u8]) -> Result<Duid, NoMemory>
     }
 }
 
-/// The DUID of a file, where its text is one.
-fn duid_by(alloc: Global, got: &Got) -> Result<Option<Duid>, NoMemory>
-    ensures { IfOk result (λ duid. option_map (λ d. d.bytes.items) duid ≡ duid_by (got_reading got.now)) }
-{
-    match got {
-        Got::Text(text) => read_duid(alloc, text),
-        Got::Missing => Ok(None),
-        Got::Unread => Ok(None),
-    }
-}
-
-/// The DUID that was read, where it was looked for and is one.
-fn duid_read(alloc: Global, read: &Option<Got>) -> Result<Option<Duid>, NoMemory>
-    ensures { IfOk result
-        (λ duid. option_map (λ d. d.bytes.items) duid ≡ option_and_then duid_by (option_map got_reading read.now)) }
-{
-    match read {
-        Some(got) => duid_by(alloc, got),
-        None => Ok(None),
-    }
-}
-
 /// The DUID of the host: the one that was read, else that of the hardware address of its first managed interface.
 pub fn host_duid(alloc: Global, first: &Managed, read: &Option<Got>) -> Result<Duid, NoMemory>
     requires { FitsManaged first.now }
     ensures { IfOk result (λ duid. duid.bytes.items ≡ host_duid (first.now ∷ []) (option_map got_reading read.now)) }
 {
-    match duid_read(alloc, read)? {
-        Some(duid) => Ok(duid),
-        None => link_layer_duid(alloc, first.spec.mac),
+    match read {
+        Some(Got::Text(text)) => kept_files::host_duid(alloc, first, Some(text)),
+        Some(Got::Missing) => kept_files::host_duid(alloc, first, None),
+        Some(Got::Unread) => kept_files::host_duid(alloc, first, None),
+        None => kept_files::host_duid(alloc, first, None),
     }
 }

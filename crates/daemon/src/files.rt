@@ -16,8 +16,7 @@ ghost use Rattle.daemon.specs.Loading.{loading_own, LoadsOne, LoadsLeases, Loads
 
 use crate::duids::{duid_copied, host_duid, some_need_duid};
 use crate::keeping::{Keeps, KeptFile, Known};
-use crate::leases4::first_lease;
-use crate::leases6::first_lease6;
+use crate::filed::{first_lease, first_lease6};
 use crate::names::{DUID_FILE, RESOLVER_FILE, lease4_file, lease6_file};
 use crate::outside::Outside;
 use crate::stores::read;

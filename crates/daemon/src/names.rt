@@ -1,12 +1,11 @@
 //! The names of the files that a life reads and keeps.
-ghost use Rattle.std.specs.Prelude.{◌≡◌, bytes_eq, IfOk};
+ghost use Rattle.std.specs.Prelude.{◌≡◌, IfOk};
 ghost use Rattle.std.specs.String.{string_bytes};
-ghost use Rattle.net_types.specs.NameText.{name_text};
 ghost use Rattle.world.specs.FileNames.{IsFileName};
 ghost use Rattle.settings.specs.Fitting.{FitsManaged};
 ghost use Rattle.turn_model.specs.Loading.{lease4_file, lease6_file};
 
-use net_types::{Name, NoMemory};
+use net_types::NoMemory;
 use settings::Managed;
 use std::alloc::Global;
 
@@ -34,17 +33,4 @@ pub fn lease6_file(alloc: Global, managed: &Managed) -> Result<String, NoMemory>
     ensures fits { IfOk result (λ name. IsFileName (string_bytes name)) }
 {
     Ok(format!(in alloc; "{}.lease6", managed.spec.name)?)
-}
-
-fn are_equal(a: &[u8], b: &[u8]) -> bool
-    ensures { result ≡ bytes_eq a.now b.now }
-{
-    a == b
-}
-
-/// Whether two names are one.
-pub fn is_same(a: &Name, b: &Name) -> bool
-    ensures { result ≡ bytes_eq (name_text a.now) (name_text b.now) }
-{
-    are_equal(a.as_bytes(), b.as_bytes())
 }

@@ -1,5 +1,5 @@
 -- No other address is announced in a turn exactly where each one that is announced is this one.
-use Rattle.std.proofs.Common.{◌≡◌, ℕ, Bool, true, false, not, ◌&&◌, ◌||◌, cond, if◌then◌else◌, List, [], ◌∷◌, map, Option, Some, None, refl, sym, ap, ◌∙◌}
+use Rattle.std.proofs.Common.{◌≡◌, Bool, true, false, not, ◌&&◌, ◌||◌, cond, if◌then◌else◌, List, [], ◌∷◌, map, Option, Some, None, refl, sym, ap, ◌∙◌}
 use Rattle.std.specs.Prelude.{◌==◌, bytes_eq}
 use Rattle.std.specs.List.{list_any, list_all, filter_map, cons_option}
 use Rattle.net_types.specs.declared.address.Ip4.{Ip4}
@@ -12,7 +12,7 @@ use Rattle.audit_words.specs.declared.shown.Site.{Site}
 use Rattle.probe_table.specs.ByAddress.{is_addr}
 use Rattle.probe_table.specs.Targets.{target_in}
 use Rattle.local_judge.specs.Choices.{announces_other}
-use Rattle.local_judge.specs.Judge.{announced_in, announcement_of}
+use Rattle.local_judge.specs.Judge.{announcement_of}
 
 module _ (site : Site) (addr : Ip4) where
   abbrev all_it : List Offer → Bool

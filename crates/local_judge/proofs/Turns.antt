@@ -1,12 +1,12 @@
 -- What a judge of link-local addresses holds after a turn.
-use Rattle.std.proofs.Common.{◌≡◌, ℕ, Bool, true, false, not, ◌&&◌, if◌then◌else◌, List, [], ◌∷◌, Option, Some, None, option_and_then, refl, subst, ap, ◌∙◌}
+use Rattle.std.proofs.Common.{◌≡◌, ℕ, Bool, true, false, ◌&&◌, if◌then◌else◌, List, ◌∷◌, Option, Some, None, option_and_then, refl, subst, ap, ◌∙◌}
 use Rattle.std.specs.List.{list_any, list_all, filter_map}
 use Rattle.net_types.specs.AddressText.{FitsIp4}
 use Rattle.net_types.specs.declared.address.Ip4.{Ip4}
 use Rattle.net_types.specs.declared.address.Mac.{Mac}
 use Rattle.frame_link.specs.declared.arp.ArpView.{ArpView}
 use Rattle.evidence_words.specs.Entries.{Entry as Told}
-use Rattle.evidence_words.specs.Inputs.{arp_on, carrier_after, has_carrier, index_at, tells_use, uses}
+use Rattle.evidence_words.specs.Inputs.{arp_on, carrier_after, index_at, tells_use, uses}
 use Rattle.audit_words.specs.Shown.{entry_shown, site_shown}
 use Rattle.audit_words.specs.declared.shown.Entry.{Entry}
 use Rattle.audit_words.specs.declared.shown.Site.{Site}

@@ -1,5 +1,5 @@
 -- Where each entry of a list goes on by its address alone, so does what stands for each address.
-use Rattle.std.proofs.Common.{◌≡◌, ℕ, Bool, true, false, ◌&&◌, ◌||◌, if◌then◌else◌, List, [], ◌∷◌, Option, Some, None, refl, sym, subst, ap, ◌∙◌}
+use Rattle.std.proofs.Common.{◌≡◌, Bool, true, false, ◌&&◌, ◌||◌, if◌then◌else◌, List, [], ◌∷◌, Option, Some, None, refl, sym, ap, ◌∙◌}
 use Rattle.std.specs.List.{list_any, filter_map, cons_option}
 use Rattle.net_types.specs.declared.address.Ip4.{Ip4}
 use Rattle.probe_table.specs.ByAddress.{IsEntered, is_addr, is_for, value_at}

@@ -10,7 +10,7 @@ use Rattle.evidence_words.specs.Inputs.{tells_contest}
 use Rattle.audit_words.specs.Shown.{entry_shown, site_shown}
 use Rattle.audit_words.specs.declared.shown.Entry.{Entry}
 use Rattle.audit_words.specs.declared.shown.Site.{Site}
-use Rattle.probe_table.specs.ByAddress.{IsEntered, is_addr, is_for, value_at}
+use Rattle.probe_table.specs.ByAddress.{IsEntered, is_addr, value_at}
 use Rattle.probe_table.specs.ProbeTimes.{TurnTest, is_past, no_probes, times_after, times_in, turn_to}
 use Rattle.probe_table.specs.declared.table.ProbeTable.{ProbeTable}
 use Rattle.probe_table.specs.declared.table.Probing.{Probing}

@@ -4,9 +4,8 @@ use Rattle.std.specs.List.{AllByRecursion, list_all}
 use Rattle.std.proofs.lemmas.Bool.{and_parts, leb-true}
 use Rattle.std.proofs.lemmas.List.{append-nil, length-append}
 use Rattle.std.proofs.lemmas.Option.{none-some}
-use Rattle.net_types.specs.declared.fault.BadText.{BadText}
 use Rattle.net_types.specs.declared.interface.IfSpec.{IfSpec}
-use Rattle.net_types.specs.LineReading.{Gives, StopsAt, Stopped, run}
+use Rattle.net_types.specs.LineReading.{Gives, StopsAt, run}
 use Rattle.net_types.specs.Marks.{IsPrintable, Lacks, is_printable}
 use Rattle.net_types.specs.TextLines as Texts
 use Rattle.net_types.specs.TextLines.{AreLines, Whole, front_in, lines_text}
@@ -25,28 +24,31 @@ use Rattle.replay_text.proofs.LineLaws.{FitsSpec}
 use Rattle.replay_text.proofs.Printables.{no_feed_in}
 use Rattle.replay_text.proofs.TakenLines.{cond_is}
 use Rattle.replay_text.proofs.TestLaws.{interfaces_sound, interfaces_whole}
+use Rattle.transcript_text.specs.Fits.{FitsLine}
 use Rattle.transcript_lines.specs.LineReading.{line_at}
+use Rattle.transcript_lines.specs.Roles.{role_of}
 use Rattle.transcript_lines.specs.LineSpellings.{IsTold, LinesAreRead}
-use Rattle.transcript_model.specs.Told.{BodyTold, LifeTold, body_lines}
+use Rattle.transcript_model.specs.Told.{BodyTold, LifeTold, body_lines, lives_lines}
 use Rattle.transcript_model.specs.Transcripts.{SpellsBody}
 use Rattle.transcript_read.specs.declared.place.Place.TheVariants as places
-use Rattle.transcript_read.specs.Bodies.{IsBadAt, IsFollowed, Reading, first_reading, followed, given, is_end, no_cause, step, take_line}
+use Rattle.transcript_read.specs.Bodies.{IsFollowed, Reading, first_reading, followed, given, is_end, step, take_line}
 use Rattle.transcript_read.specs.Heads.{NoneGoesOn}
 use Rattle.transcript_read.specs.Places.{Spot, first_spot, next_spot, walk}
-use Rattle.transcript_read.proofs.BreakLaws.{AllLines, breaks_lines, front_line, later_are}
+use Rattle.transcript_read.proofs.BreakLaws.{AllLines, front_line, later_are}
 use Rattle.transcript_read.proofs.LifeLaws.{life_of, life_told, lives_shown, lives_told, told_fit, told_shown}
-use Rattle.transcript_read.proofs.WalkLaws.{FromInterfaces, Life, LivesFit, after_number, from, life_walk, lives_in, lives_walk, spot, spot_step, walk_step}
+use Rattle.transcript_read.proofs.InnerLaws.{FitRole, FitRoles}
+use Rattle.transcript_read.proofs.WalkLaws.{FromInterfaces, Life, LivesFit, RolesOfLives, after_number, from, life_walk, lives_in, lives_walk, spot, spot_step, walk_step}
 
 -- ---- texts and their lines
 
-record ToldTexts {J : Type 0} (after : J → Line → J) (texts : List Texts.Line) (from to : Reading J) : Type 0 where
-  lines : List Line
-  printable : AllByRecursion IsPrintable texts
-  spelled : AreSpelled IsTold texts lines
-  walks : walk lines from.spot ≡ Some to.spot
-  follows : to.judge ≡ followed after from.judge lines
+pub record ToldTexts {J : Type 0} (after : J → Line → J) (texts : List Texts.Line) (from to : Reading J) : Type 0 where
+  pub lines : List Line
+  pub printable : AllByRecursion IsPrintable texts
+  pub spelled : AreSpelled IsTold texts lines
+  pub walks : walk lines from.spot ≡ Some to.spot
+  pub follows : to.judge ≡ followed after from.judge lines
 
-told_texts : {J : Type 0} (after : J → Line → J) → LinesAreRead → (texts : List Texts.Line) (from to : Reading J) → run (step after) texts from ≡ Some to
+pub told_texts : {J : Type 0} (after : J → Line → J) → LinesAreRead → (texts : List Texts.Line) (from to : Reading J) → run (step after) texts from ≡ Some to
     → ToldTexts after texts from to
 unfolding step
 told_texts after law [] from to e =
@@ -66,7 +68,7 @@ told_texts after law (text ∷ texts) from to e =
       follows = more.follows ∙ ap (λ (r : Reading _). followed after r.judge more.lines) (sym m.gives);
     }
 
-texts_run : {J : Type 0} (after : J → Line → J) → LinesAreRead → (texts : List Texts.Line) (lines : List Line) (from : Reading J) (to : Spot)
+pub texts_run : {J : Type 0} (after : J → Line → J) → LinesAreRead → (texts : List Texts.Line) (lines : List Line) (from : Reading J) (to : Spot)
     → AllByRecursion IsPrintable texts → AreSpelled IsTold texts lines
     → walk lines from.spot ≡ Some to → run (step after) texts from ≡ Some (record { spot = to; judge = followed after from.judge lines })
 unfolding step
@@ -153,14 +155,69 @@ ifaces_walk (spec ∷ ifaces) done more fit =
     ∙ ifaces_walk ifaces (done ++ spec ∷ []) more (subst FitInterfaces (sym grouped) fit)
     ∙ ap (λ specs. walk more (spot specs places.Interfaces)) grouped
 
-body_walk : (ifaces : List IfSpec) (life : Life) (lives : List Life) → FitInterfaces ifaces → LivesFit 1 (life ∷ lives)
+body_walk : (ifaces : List IfSpec) (life : Life) (lives : List Life) → FitInterfaces ifaces → RolesOfLives (life ∷ lives) → LivesFit 1 (life ∷ lives)
     → walk (map Model.Interface ifaces ++ lives_in 1 (life ∷ lives)) first_spot ≡ Some (spot ifaces (places.Between (1 + length lives)))
-body_walk ifaces life lives fit each =
+body_walk ifaces life lives fit roles_fit each =
     ifaces_walk ifaces [] (lives_in 1 (life ∷ lives)) fit
     ∙ walk_step (Model.Life 1) (after_number 1 life (lives_in 2 lives)) (spot ifaces places.Interfaces) (spot ifaces (places.Numbered 1))
     (spot_step (spot ifaces places.Interfaces) (Model.Life 1) (places.Numbered 1) ifaces refl refl)
-    ∙ life_walk 1 life (lives_in 2 lives) ifaces each.0
-    ∙ lives_walk lives 1 ifaces each.1
+    ∙ life_walk 1 life (lives_in 2 lives) ifaces roles_fit.0 each.0
+    ∙ lives_walk lives 1 ifaces roles_fit.1 each.1
+
+-- ---- roles of lines that are told
+
+role_fits : (line : Line) → FitsLine line → FitRole (role_of line)
+role_fits Model.Head fits = tt
+role_fits (Model.Conf text) fits = tt
+role_fits (Model.Notice line word) fits = tt
+role_fits (Model.Interface spec) fits = tt
+role_fits (Model.Life number) fits = tt
+role_fits (Model.Start begin) fits = tt
+role_fits (Model.Asides names) fits = tt
+role_fits Model.AsidesFailed fits = tt
+role_fits (Model.Wrote name bytes done) fits = tt
+role_fits (Model.Synced name done) fits = tt
+role_fits (Model.Renamed name done) fits = tt
+role_fits (Model.Removed name done) fits = tt
+role_fits (Model.Settled done) fits = tt
+role_fits (Model.Read name reading) fits = tt
+role_fits (Model.Turn at salt event bytes) fits = tt
+role_fits (Model.HookPolled number answer) fits = tt
+role_fits (Model.HookAbandoned number) fits = tt
+role_fits (Model.HookDropped number reason name) fits = tt
+role_fits (Model.HookStarted number reason name done) fits = tt
+role_fits (Model.Variable name value) fits = tt
+role_fits (Model.Send iface bytes taken) fits = tt
+role_fits (Model.HostListed count) fits = fits
+role_fits (Model.Row row) fits = fits
+role_fits Model.HostListFailed fits = tt
+role_fits (Model.HostDel row done) fits = tt
+role_fits (Model.HostAdd row done) fits = tt
+role_fits (Model.Until moment) fits = tt
+role_fits (Model.Hold iface net) fits = tt
+role_fits Model.EndOfLife fits = tt
+
+pub roles_told : (texts : List Texts.Line) (lines : List Line) → AreSpelled IsTold texts lines → FitRoles lines
+roles_told [] [] spelled = tt
+roles_told [] (line ∷ lines) spelled = absurd spelled
+roles_told (text ∷ texts) [] spelled = absurd spelled
+roles_told (text ∷ texts) (line ∷ lines) spelled = (role_fits line spelled.0.fits.fits, roles_told texts lines spelled.1)
+
+all_front : (lines more : List Line) → FitRoles (lines ++ more) → FitRoles lines
+all_front [] more fits = tt
+all_front (line ∷ lines) more fits = (fits.0, all_front lines more fits.1)
+
+all_later : (lines more : List Line) → FitRoles (lines ++ more) → FitRoles more
+all_later [] more fits = fits
+all_later (line ∷ lines) more fits = all_later lines more fits.1
+
+roles_of_lives : (number : ℕ) (lives : List Life) → FitRoles (lives_in number lives) → RolesOfLives lives
+roles_of_lives number [] fits = tt
+roles_of_lives number (life ∷ lives) fits =
+    let rest = Model.EndOfLife ∷ lives_in (number + 1) lives in (
+      all_front life.inner rest fits.1.1,
+      roles_of_lives (number + 1) lives (all_later life.inner rest fits.1.1).1,
+    )
 
 record Ended {J : Type 0} (after : J → Line → J) (texts : List Texts.Line) (first : J) : Type 0 where
   end : Reading J
@@ -173,9 +230,11 @@ lives_end after law first texts ifaces [] spells = let some = spells.fits.some i
 lives_end after law first texts ifaces (life ∷ lives) spells =
     let body : BodyTold = record { ifaces = ifaces; lives = life ∷ lives } in
     let fit = told_fit (life ∷ lives) 1 spells.fits.lives in
+    let fits = all_later (map Model.Interface ifaces) (lives_lines 1 (life ∷ lives)) (roles_told texts (body_lines body) spells.spelled) in
+    let roles_fit = roles_of_lives 1 (map life_of (life ∷ lives)) (subst FitRoles (told_shown (life ∷ lives) 1) fits) in
     let walks : walk (body_lines body) first_spot ≡ Some (spot ifaces (places.Between (1 + length (map life_of lives)))) =
     ap (λ ls. walk (map Model.Interface ifaces ++ ls) first_spot) (told_shown (life ∷ lives) 1)
-    ∙ body_walk ifaces (life_of life) (map life_of lives) spells.fits.ifaces fit in
+    ∙ body_walk ifaces (life_of life) (map life_of lives) spells.fits.ifaces roles_fit fit in
     record {
       end = record { spot = spot ifaces (places.Between (1 + length (map life_of lives))); judge = followed after first (body_lines body) };
       runs = texts_run after law texts (body_lines body) (first_reading first) _ spells.printable spells.spelled walks;
@@ -199,7 +258,7 @@ pub body_are : AllLines SpellsBody
 body_are = λ body all spells. all_map IsPrintable (Lacks 10) no_feed_in all spells.printable
 
 -- no body goes on after lines that were taken with what stops the reader
-none_over : {J : Type 0} (after : J → Line → J) → LinesAreRead → (first : J) (taken : List Texts.Line) (state : Reading J) (rest : List ℕ)
+pub none_over : {J : Type 0} (after : J → Line → J) → LinesAreRead → (first : J) (taken : List Texts.Line) (state : Reading J) (rest : List ℕ)
     → run (step after) taken (first_reading first) ≡ Some state → StopsAt (step after) given state (front_in rest)
     → NoneGoesOn SpellsBody taken (front_in rest)
 none_over after law first taken state rest runs stops = λ body more spells same.
@@ -208,17 +267,3 @@ none_over after law first taken state rest runs stops = λ body more spells same
     sym (run_more (step after) taken more (first_reading first) state runs) ∙ ended.runs in
     let are = later_are taken more (body_are body (taken ++ more) spells) in
     never_stops after more (lines_text more) state ended.end are refl others ended.is (subst (StopsAt (step after) given state) (sym same) stops)
-
-pub none_read : {J : Type 0} (after : J → Line → J) → LinesAreRead → (text : List ℕ) (first : J) (number : ℕ) (why : BadText)
-    → Stopped (step after) given no_cause (first_reading first) text number why → IsBadAt text number
-none_read after law text first number why stopped =
-    let took = stopped.took in
-    record {
-      lines = took.lines;
-      rest = stopped.rest;
-      are = took.are;
-      cut = took.cut;
-      counted = took.counted;
-      breaks = breaks_lines SpellsBody body_are text took.lines stopped.rest took.are took.cut
-          (none_over after law first took.lines stopped.state stopped.rest took.runs stopped.stops);
-    }

@@ -1,7 +1,7 @@
 -- With which fronts no value's lines go on: said of lines, and so of texts.
 use Rattle.std.proofs.Common.{◌≡◌, ℕ, ◌+◌, ◌≤◌, List, [], ◌∷◌, ◌++◌, length, Option, Some, None, refl, sym, ap, ◌∙◌, subst, arith, append_assoc, length-append}
 use Rattle.net_types.specs.Cutting.{split_at_byte}
-use Rattle.net_types.specs.FirstBadLine.{Breaks}
+use Rattle.net_types.specs.FirstBadLine.{Begins, Breaks}
 use Rattle.net_types.specs.Marks.{Lacks}
 use Rattle.net_types.specs.TextLines.{AreLines, End, Front, Line, Unended, Whole, ended, front_by, front_in, lines_text}
 use Rattle.net_types.proofs.AllLaws.{all_join}
@@ -34,7 +34,7 @@ later_are (line ∷ lines) more are = later_are lines more are.1
 
 -- ---- what stands in front of lines
 
-no_front : (more : List Line) → AreLines more → front_in (lines_text more) ≡ End → more ≡ []
+pub no_front : (more : List Line) → AreLines more → front_in (lines_text more) ≡ End → more ≡ []
 no_front [] are e = refl
 no_front (line ∷ more) are e = let never : Whole line ≡ End = sym (front_line line (lines_text more) are.0) ∙ e in cc
 
@@ -112,11 +112,40 @@ abbrev pub Turns : {V W : Type 0} → (V → List Line → Type 0) → (W → Li
 Turns {V} {W} Spells Inner front body =
     (value : V) (more : List Line) → Spells value (front ++ more) → front_in (lines_text more) ≡ front_in body → (inner : W) × Inner inner more
 
+-- lines in front of those of a value are those of a value of the outer format
+abbrev pub Joins : {V W : Type 0} → (V → List Line → Type 0) → (W → List Line → Type 0) → List Line → Type 0
+Joins {V} {W} Spells Inner front = (inner : W) (lines : List Line) → Inner inner lines → (value : V) × Spells value (front ++ lines)
+
+pub begins_later : {V W : Type 0} (Spells : V → List Line → Type 0) (Inner : W → List Line → Type 0) (front lines : List Line) → Joins Spells Inner front
+    → Begins Inner (lines_text lines) → Begins Spells (lines_text (front ++ lines))
+begins_later Spells Inner front lines joins begins =
+    let joined = joins begins.value begins.lines begins.spells in
+    record {
+      value = joined.0;
+      lines = front ++ begins.lines;
+      spells = joined.1;
+      more = begins.more;
+      goes_on = text_more front begins.lines ∙ ap (λ t. lines_text front ++ t) begins.goes_on
+          ∙ sym (append_assoc (lines_text front) (lines_text lines) begins.more)
+          ∙ ap (λ t. t ++ begins.more) (sym (text_more front lines));
+    }
+
+-- a front of lines that a value begins with
+pub shorter : {V : Type 0} (Spells : V → List Line → Type 0) (lines later : List Line) → Begins Spells (lines_text (lines ++ later))
+    → Begins Spells (lines_text lines)
+shorter Spells lines later begins = record {
+  value = begins.value;
+  lines = begins.lines;
+  spells = begins.spells;
+  more = lines_text later ++ begins.more;
+  goes_on = begins.goes_on ∙ ap (λ t. t ++ begins.more) (text_more lines later) ∙ append_assoc (lines_text lines) (lines_text later) begins.more;
+}
+
 pub halts_later : {V W : Type 0} (Spells : V → List Line → Type 0) (Inner : W → List Line → Type 0) → AllLines Spells → (front : List Line) (text body : List ℕ)
     (number further : ℕ)
-    → AreLines front → text ≡ lines_text front ++ body → further ≡ length front + number → Turns Spells Inner front body → HaltsAt Inner body number
-    → HaltsAt Spells text further
-halts_later Spells Inner feeds front text body number further are cut counted turns halts =
+    → AreLines front → text ≡ lines_text front ++ body → further ≡ length front + number → Turns Spells Inner front body → Joins Spells Inner front
+    → HaltsAt Inner body number → HaltsAt Spells text further
+halts_later Spells Inner feeds front text body number further are cut counted turns joins halts =
     let inner_counted = halts.counted in
     let whole : length (front ++ halts.lines) ≡ length front + length halts.lines = length-append front halts.lines in
     record {
@@ -126,6 +155,7 @@ halts_later Spells Inner feeds front text body number further are cut counted tu
       cut = cut ∙ ap (λ b. lines_text front ++ b) halts.cut ∙ sym (append_assoc (lines_text front) (lines_text halts.lines) halts.rest)
           ∙ ap (λ t. t ++ halts.rest) (sym (text_more front halts.lines));
       counted = omega (arith, counted, inner_counted, whole);
+      before = begins_later Spells Inner front halts.lines joins halts.before;
       none = λ value more spells same.
           let here = subst (Spells value) (append_assoc front halts.lines more) spells in
           let these = later_are front (halts.lines ++ more) (feeds value (front ++ (halts.lines ++ more)) here) in

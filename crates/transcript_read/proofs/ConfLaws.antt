@@ -56,7 +56,7 @@ longer_text : (front rest : List ℕ) → (front ++ 10 ∷ []) ++ rest ≢ []
 longer_text [] rest e = let no : ⊥ = cc in no
 longer_text (first ∷ front) rest e = let no : ⊥ = cc in no
 
-begins_line : (line : Line) (rest : List ℕ) → Lacks 10 line → BeginsWithLine (ended line ++ rest) (without_return line) rest
+pub begins_line : (line : Line) (rest : List ℕ) → Lacks 10 line → BeginsWithLine (ended line ++ rest) (without_return line) rest
 begins_line line rest lacks =
     line_sound (ended line ++ rest) (without_return line) rest
     (some_line (ended line ++ rest) (longer_text line rest)
@@ -115,13 +115,13 @@ scan_reads lines are =
 
 -- ---- configurations by what is read
 
-record ConfBy (read : Read) (told : Result Configuration ConfFault) : Type 0 where
-  front : List Standing
-  rest : List Directive
-  stand : Stand read.found front rest
-  tells : Tells front rest read.not_text told
+pub record ConfBy (read : Read) (told : Result Configuration ConfFault) : Type 0 where
+  pub front : List Standing
+  pub rest : List Directive
+  pub stand : Stand read.found front rest
+  pub tells : Tells front rest read.not_text told
 
-conf_by : (lines : List Line) (told : Result Configuration ConfFault) → AreLines lines → IsConfOf (lines_text lines) told → ConfBy (scan 1 lines) told
+pub conf_by : (lines : List Line) (told : Result Configuration ConfFault) → AreLines lines → IsConfOf (lines_text lines) told → ConfBy (scan 1 lines) told
 conf_by lines told are is =
     subst (λ read. ConfBy read told) (one_reading (lines_text lines) is.read (scan 1 lines) is.is_read (scan_reads lines are))
     (record { front = is.front; rest = is.rest; stand = is.stand; tells = is.tells })
@@ -500,3 +500,7 @@ faulty_line lines bad are is =
             faulty = by_conf (at.before ++ at.line ∷ []) (Err bad) with_it (subst (λ read. ConfBy read (Err bad)) (sym at.with_it) faulty);
           })
     ]
+
+-- no lines are a configuration
+pub empty_conf : IsConfOf [] (Ok (configured []))
+empty_conf = by_conf [] (Ok (configured [])) tt (record { front = []; rest = []; stand = refl; tells = (refl, refl, refl, refl) })

@@ -4,6 +4,7 @@ use Rattle.std.proofs.lemmas.List.{append-nil}
 use Rattle.std.proofs.lemmas.Option.{none-some}
 use Rattle.std.proofs.lemmas.Slice.Eq.{bytes_eq-Decides}
 use Rattle.net_types.specs.Cutting.{◌>>=◌, split_at_byte, strip_word}
+use Rattle.net_types.specs.FirstBadLine.{Begins}
 use Rattle.net_types.specs.Marks.{Lacks}
 use Rattle.net_types.specs.TextLines.{AreLines, End, Line, Unended, Whole, ended, front_by, front_in, lines_text}
 use Rattle.net_types.proofs.AllLaws.{all_join}
@@ -13,10 +14,12 @@ use Rattle.net_types.proofs.ReadsLaws.{passed, some_same, split_sound, strip_sou
 use Rattle.net_types.proofs.ReadsLaws as Steps
 use Rattle.conf_text.specs.Configurations.{NoticeContent}
 use Rattle.script_model.specs.Lines.{line_words}
+use Rattle.transcript_model.specs.Transcripts.{SpellsBody}
 use Rattle.transcript_read.specs.Heads.{AreConfLines, ConfLinesSoFar, HaltsAt, HaltsBy, LacksNotice, LacksNoticeAt, NoticedSoFar, SpellsNoticed, conf_line_at, conf_words, notice_words}
 use Rattle.transcript_read.specs.declared.answers.TranscriptAnswer.{TranscriptAnswer}
 use Rattle.transcript_read.specs.declared.answers.TranscriptAnswer.TheVariants as answers
-use Rattle.transcript_read.proofs.BreakLaws.{AllLines, counted_within, front_line, later_are, same_whole}
+use Rattle.transcript_read.proofs.BodyLaws.{body_are}
+use Rattle.transcript_read.proofs.BreakLaws.{AllLines, Joins, begins_later, counted_within, front_line, later_are, same_whole, shorter}
 
 -- ---- lists
 
@@ -192,19 +195,37 @@ other_lacks notices left due text rest words others number so_far split other =
 pub noticed_lines : (notices : List NoticeContent) → AllLines (SpellsNoticed notices)
 noticed_lines notices = λ body all spells. spells.each
 
-lacks_halts : (notices : List NoticeContent) (text : List ℕ) (number : ℕ) → LacksNoticeAt notices text number → HaltsAt (SpellsNoticed notices) text number
-lacks_halts notices text number at =
+-- the lines of notices in front of a body
+pub noticed_joins : (notices : List NoticeContent) → AreLines (map notice_words notices)
+    → Joins (SpellsNoticed notices) SpellsBody (map notice_words notices)
+noticed_joins notices are = λ body lines spells. (
+  body,
+  record {
+    others = lines;
+    are = refl;
+    each = all_join (Lacks 10) (map notice_words notices) lines are (body_are body lines spells);
+    spells = spells;
+  },
+)
+
+lacks_halts : (notices : List NoticeContent) (text : List ℕ) (number : ℕ) → AreLines (map notice_words notices) → Begins SpellsBody []
+    → LacksNoticeAt notices text number → HaltsAt (SpellsNoticed notices) text number
+lacks_halts notices text number each begins at =
     let so_far = at.so_far in
+    let split : map notice_words notices ≡ map notice_words so_far.before ++ map notice_words (at.due ∷ at.later) =
+    ap (map notice_words) so_far.all ∙ map_joined notice_words so_far.before (at.due ∷ at.later) in
+    let whole = begins_later (SpellsNoticed notices) SpellsBody (map notice_words notices) [] (noticed_joins notices each) begins in
     record {
       lines = map notice_words so_far.before;
       rest = at.rest;
       are = so_far.are;
       cut = so_far.cut;
       counted = so_far.counted ∙ ap (λ n. n + 1) (sym (length_mapped notice_words so_far.before));
+      before =
+          shorter (SpellsNoticed notices) (map notice_words so_far.before) (map notice_words (at.due ∷ at.later))
+          (subst (λ ls. Begins (SpellsNoticed notices) (lines_text ls)) (append-nil (map notice_words notices) ∙ split) whole);
       none = λ body more spells same.
           let due = notice_words at.due ∷ map notice_words at.later in
-          let split : map notice_words notices ≡ map notice_words so_far.before ++ due =
-          ap (map notice_words) so_far.all ∙ map_joined notice_words so_far.before (at.due ∷ at.later) in
           let here : more ≡ due ++ spells.others =
           cancel (map notice_words so_far.before) more (due ++ spells.others)
           (spells.are ∙ ap (λ ls. ls ++ spells.others) split ∙ append_assoc (map notice_words so_far.before) due spells.others) in
@@ -215,7 +236,7 @@ lacks_halts notices text number at =
           at.lacks (sym same ∙ front);
     }
 
-pub notice_halts : (notices : List NoticeContent) (text : List ℕ) (answer : TranscriptAnswer) → LacksNotice notices text answer
-    → HaltsBy (SpellsNoticed notices) text answer
-notice_halts notices text (answers.Bad line) lacks = lacks_halts notices text line lacks
-notice_halts notices text answers.NoMemory lacks = tt
+pub notice_halts : (notices : List NoticeContent) (text : List ℕ) (answer : TranscriptAnswer) → AreLines (map notice_words notices) → Begins SpellsBody []
+    → LacksNotice notices text answer → HaltsBy (SpellsNoticed notices) text answer
+notice_halts notices text (answers.Bad line) each begins lacks = lacks_halts notices text line each begins lacks
+notice_halts notices text answers.NoMemory each begins lacks = tt

@@ -1,9 +1,10 @@
 -- The lines of a life: which may come is told by where the last one stands.
-use Rattle.std.proofs.Common.{◌≡◌, ◌-◌, ◌<◌, Bool, true, ◌&&◌, cond, List, [], ◌∷◌, length, Some, None, refl, sym, ap, ◌∙◌, subst, arith, eqb, leb, ltb, IsTrue}
+use Rattle.std.proofs.Common.{◌≡◌, ◌-◌, ◌<◌, ◌^◌, Bool, true, ◌&&◌, cond, List, [], ◌∷◌, length, Some, None, refl, sym, ap, ◌∙◌, subst, arith, eqb, leb, ltb, IsTrue}
 use Rattle.std.specs.List.{AllByRecursion}
 use Rattle.std.proofs.lemmas.Bool.{and_from, and_parts, eq-eqb, eqb-true, le-leb, leb-true, lt-ltb, ltb-true}
 use Rattle.net_types.proofs.ReadsLaws.{some_same}
 use Rattle.world.specs.declared.rows.HostRow.{HostRow}
+use Rattle.world.specs.Rows.{IsRow}
 use Rattle.script_model.specs.Lines.{Line}
 use Rattle.replay_text.proofs.TakenLines.{cond_is}
 use Rattle.transcript_lines.specs.declared.role.Role.{Role}
@@ -11,7 +12,8 @@ use Rattle.transcript_lines.specs.declared.role.Role.TheVariants as roles
 use Rattle.transcript_lines.specs.Roles.{role_of}
 use Rattle.transcript_model.specs.LifeShapes.{row_before, rows_in_front, comes_after, Rise, AreAsked, FitListings, moment_before, moments_in, NeverFall, follows}
 use Rattle.transcript_read.specs.declared.place.Within.{Within}
-use Rattle.transcript_read.specs.Places.{next_within}
+use Rattle.transcript_read.specs.Places.{leaves_room, next_within}
+use Rattle.transcript_read.proofs.RoomLaws.{room_left}
 
 -- a turn, or what follows one
 abbrev pub is_inner : Role → Bool
@@ -60,8 +62,10 @@ no_rows (row ∷ rows) e = absurd (omega (arith, e))
 
 pub stepped : (within next : Within) (role : Role) (lines : List Line) → next_within within role ≡ Some next → Good next lines → GoodNext within role lines
 stepped within next (roles.Row row) lines e good =
-    let t = cond_is (ltb 0 within.left && comes_after within.last row) (Some (record within { left = within.left - 1; last = Some row })) next e in
-    let parts = and_parts (ltb 0 within.left) (comes_after within.last row) t.0 in
+    let test = (ltb 0 within.left && comes_after within.last row) && leaves_room (within.left - 1) row in
+    let t = cond_is test (Some (record within { left = within.left - 1; last = Some row })) next e in
+    let both = and_parts (ltb 0 within.left && comes_after within.last row) (leaves_room (within.left - 1) row) t.0 in
+    let parts = and_parts (ltb 0 within.left) (comes_after within.last row) both.0 in
     let some = ltb-true 0 within.left parts.0 in
     let same : record within { left = within.left - 1; last = Some row } ≡ next = some_same t.1 in
     let less : within.left - 1 ≡ next.left = ap (λ (w : Within). w.left) same in
@@ -133,18 +137,46 @@ pub record Steps (within : Within) (role : Role) (lines : List Line) : Type 0 wh
   pub same : next.number ≡ within.number
   pub good : Good next lines
 
-pub steps : (within : Within) (role : Role) (lines : List Line) → GoodNext within role lines → Steps within role lines
-steps within (roles.Row row) lines good =
+-- rows that a host can hold, and listings that a number of 64 bits counts
+abbrev pub FitRole : Role → Type 0
+FitRole (roles.Row row) = IsRow row
+FitRole (roles.Listing count) = count < 2 ^ 64
+FitRole _ = Unit {0}
+
+abbrev pub FitRoles : List Line → Type 0
+FitRoles lines = AllByRecursion (λ line. FitRole (role_of line)) lines
+
+row_fits : (role : Role) (rows : List HostRow) → FitRole role → AllByRecursion IsRow rows → AllByRecursion IsRow (row_before role rows)
+row_fits roles.Head rows fits each = tt
+row_fits (roles.Interface spec) rows fits each = tt
+row_fits (roles.Life number) rows fits each = tt
+row_fits (roles.Start at) rows fits each = tt
+row_fits (roles.Turn at) rows fits each = tt
+row_fits (roles.Listing count) rows fits each = tt
+row_fits (roles.Row row) rows fits each = (fits, each)
+row_fits roles.Other rows fits each = tt
+row_fits roles.End rows fits each = tt
+
+pub rows_fit : (lines : List Line) → FitRoles lines → AllByRecursion IsRow (rows_in_front lines)
+rows_fit [] fits = tt
+rows_fit (line ∷ lines) fits = row_fits (role_of line) (rows_in_front lines) fits.0 (rows_fit lines fits.1)
+
+pub steps : (within : Within) (role : Role) (lines : List Line) → FitRoles lines → GoodNext within role lines → Steps within role lines
+steps within (roles.Row row) lines fits good =
     let counted = good.counted in
     let some : 0 < within.left = omega (arith, counted) in
-    let test : (ltb 0 within.left && comes_after within.last row) ≡ true = and_from _ _ (lt-ltb 0 within.left some) good.rise.0 in
+    let fewer : length (rows_in_front lines) ≡ within.left - 1 = omega (arith, counted) in
+    let room : leaves_room (within.left - 1) row ≡ true =
+    subst (λ n. leaves_room n row ≡ true) fewer (room_left row (rows_in_front lines) (rows_fit lines fits) good.rise.1) in
+    let test : ((ltb 0 within.left && comes_after within.last row) && leaves_room (within.left - 1) row) ≡ true =
+    and_from _ _ (and_from _ _ (lt-ltb 0 within.left some) good.rise.0) room in
     record {
       next = record within { left = within.left - 1; last = Some row };
       is = ap (λ b. cond b (Some (record within { left = within.left - 1; last = Some row })) None) test;
       same = refl;
       good = record { inner = good.inner; counted = omega (arith, counted); rise = good.rise.1; listings = good.listings; moments = good.moments };
     }
-steps within (roles.Turn at) lines good =
+steps within (roles.Turn at) lines fits good =
     let none : within.left ≡ 0 = sym good.counted in
     let test : (eqb within.left 0 && leb within.now at) ≡ true = and_from _ _ (eq-eqb within.left 0 none) (le-leb within.now at good.moments.0) in
     record {
@@ -159,7 +191,7 @@ steps within (roles.Turn at) lines good =
         moments = good.moments.1;
       };
     }
-steps within (roles.Listing count) lines good =
+steps within (roles.Listing count) lines fits good =
     let none : within.left ≡ 0 = sym good.counted in
     record {
       next = record within { left = count; last = None };
@@ -167,7 +199,7 @@ steps within (roles.Listing count) lines good =
       same = refl;
       good = record { inner = good.inner; counted = good.asked.0; rise = good.asked.1; listings = good.listings; moments = good.moments };
     }
-steps within roles.Other lines good =
+steps within roles.Other lines fits good =
     let none : within.left ≡ 0 = sym good.counted in
     record {
       next = within;
@@ -181,16 +213,16 @@ steps within roles.Other lines good =
         moments = good.moments;
       };
     }
-steps within roles.Head lines good = let never = good.is in cc
-steps within (roles.Interface spec) lines good = let never = good.is in cc
-steps within (roles.Life number) lines good = let never = good.is in cc
-steps within (roles.Start at) lines good = let never = good.is in cc
-steps within roles.End lines good = let never = good.is in cc
+steps within roles.Head lines fits good = let never = good.is in cc
+steps within (roles.Interface spec) lines fits good = let never = good.is in cc
+steps within (roles.Life number) lines fits good = let never = good.is in cc
+steps within (roles.Start at) lines fits good = let never = good.is in cc
+steps within roles.End lines fits good = let never = good.is in cc
 
 -- a life keeps its number
 pub kept : (within next : Within) (role : Role) → next_within within role ≡ Some next → next.number ≡ within.number
 kept within next (roles.Row row) e =
-    let test = ltb 0 within.left && comes_after within.last row in
+    let test = (ltb 0 within.left && comes_after within.last row) && leaves_room (within.left - 1) row in
     sym (ap (λ (w : Within). w.number) (some_same (cond_is test (Some (record within { left = within.left - 1; last = Some row })) next e).1))
 kept within next (roles.Turn at) e =
     sym (ap (λ (w : Within). w.number) (some_same (cond_is (eqb within.left 0 && leb within.now at) (Some (record within { now = at })) next e).1))

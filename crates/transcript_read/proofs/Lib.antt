@@ -1,9 +1,13 @@
+mod RoomLaws
 mod InnerLaws
 mod WalkLaws
 mod LifeLaws
-mod BodyLaws
-mod LoopLaws
 mod BreakLaws
+mod BodyLaws
+mod EndLaws
+mod LoopLaws
 mod HeadLaws
 mod ConfLaws
+mod NoticeLaws
 mod TranscriptLaws
+mod SameLaws

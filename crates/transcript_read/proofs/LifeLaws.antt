@@ -100,7 +100,7 @@ turns_inner : (turns : List TurnTold) → AllByRecursion (λ turn. AllFollow tur
 turns_inner [] each = tt
 turns_inner (turn ∷ turns) each = all_join IsInner (turn_lines turn) (flat_map turn_lines turns) (refl, all_inner turn.lines each.0) (turns_inner turns each.1)
 
-told_good : (life : LifeTold) (number : ℕ) → FitsLife life → Good (opened number life.begin.at) (lines_within life)
+pub told_good : (life : LifeTold) (number : ℕ) → FitsLife life → Good (opened number life.begin.at) (lines_within life)
 told_good life number fits = record {
   inner = all_join IsInner life.opening (flat_map turn_lines life.turns) (all_inner life.opening fits.opening) (turns_inner life.turns fits.turns);
   counted = ap length fits.listings.0;

@@ -11,7 +11,7 @@ use Rattle.transcript_read.specs.declared.body.BodyAnswer.{BodyAnswer}
 use Rattle.transcript_read.specs.declared.body.BodyAnswer.TheVariants as answers
 use Rattle.transcript_lines.specs.LineSpellings.{LinesAreRead}
 use Rattle.transcript_read.specs.Bodies.{IsNoBody, first_reading}
-use Rattle.transcript_read.proofs.BodyLaws.{none_read}
+use Rattle.transcript_read.proofs.EndLaws.{none_read}
 
 no_rest : (rest : List ℕ) → length rest ≡ 0 → rest ≡ []
 no_rest [] e = refl

@@ -4,6 +4,7 @@ use Rattle.std.proofs.lemmas.List.{append-nil}
 use Rattle.std.proofs.lemmas.Option.{none-some}
 use Rattle.std.proofs.lemmas.Slice.Eq.{bytes_eq-Decides}
 use Rattle.net_types.specs.Cutting.{split_at_byte, strip_word}
+use Rattle.net_types.specs.FirstBadLine.{Begins}
 use Rattle.net_types.specs.Marks.{Lacks}
 use Rattle.net_types.specs.TextLines.{AreLines, End, Line, Unended, Whole, ended, front_by, front_in, lines_text}
 use Rattle.net_types.proofs.AllLaws.{all_join}
@@ -11,7 +12,7 @@ use Rattle.net_types.proofs.LineSteps.{text_more}
 use Rattle.net_types.proofs.ListLaws.{split_smaller}
 use Rattle.net_types.proofs.ReadsLaws.{split_sound}
 use Rattle.conf_text.specs.declared.answers.ConfFault.{ConfFault}
-use Rattle.conf_text.specs.Configurations.{Configuration, IsConfOf, NoticeContent}
+use Rattle.conf_text.specs.Configurations.{Configuration, IsConfOf, NoticeContent, configured}
 use Rattle.conf_text.specs.Laws.{ConfigurationIsOne}
 use Rattle.script_model.specs.Lines as Model
 use Rattle.script_model.specs.Lines.{line_words}
@@ -27,9 +28,11 @@ use Rattle.transcript_read.specs.declared.answers.TranscriptAnswer.{TranscriptAn
 use Rattle.transcript_read.specs.declared.answers.TranscriptAnswer.TheVariants as answers
 use Rattle.transcript_read.specs.Whole.{IsBadLine, IsFollowedWhole}
 use Rattle.transcript_read.proofs.BodyLaws.{body_are}
-use Rattle.transcript_read.proofs.BreakLaws.{AllLines, Turns, breaks_lines, counted_within, first_line, front_line, halts_later, later_are, none_goes_on, same_whole}
-use Rattle.transcript_read.proofs.ConfLaws.{fault_stays, faulty_line}
-use Rattle.transcript_read.proofs.HeadLaws.{cancel, conf_lacks, length_mapped, map_joined, noticed_lines}
+use Rattle.transcript_read.proofs.BreakLaws.{AllLines, Joins, Turns, begins_later, breaks_lines, counted_within, first_line, front_line, halts_later, later_are, none_goes_on, same_whole, shorter}
+use Rattle.transcript_read.proofs.ConfLaws.{empty_conf, fault_stays, faulty_line}
+use Rattle.transcript_read.proofs.EndLaws.{first_body}
+use Rattle.transcript_read.proofs.HeadLaws.{cancel, conf_lacks, length_mapped, map_joined, noticed_joins, noticed_lines}
+use Rattle.transcript_read.proofs.NoticeLaws.{notices_are}
 
 -- ---- all of them are lines
 
@@ -73,19 +76,19 @@ not_told : LinesAreRead → (lines : List Model.Line) (line : Line) (later : Lis
 not_told law [] line later spelled = spelled
 not_told law (first ∷ lines) line later spelled = none-some first (sym (not_read line) ∙ law.whole (conf_words line) first spelled.0)
 
-no_conf : LinesAreRead → (notices : List NoticeContent) (body : BodyTold) (others : List Line) → SpellsNoticed notices body others
+pub no_conf : LinesAreRead → (notices : List NoticeContent) (body : BodyTold) (others : List Line) → SpellsNoticed notices body others
     → (line : Line) (later : List Line) → others ≡ conf_words line ∷ later → ⊥
 no_conf law [] body others spells line later e =
     not_told law (body_lines body) line later (subst (λ ls. AreSpelled IsTold ls (body_lines body)) (sym spells.are ∙ e) spells.spells.spelled)
 no_conf law (notice ∷ notices) body others spells line later e = not_notice notice line (ap first_of (sym spells.are ∙ e))
 
 -- the lines of a configuration are those that are read, and some more
-record Goes (lines all more others : List Line) : Type 0 where
-  later : List Line
-  whole : all ≡ lines ++ later
-  rest : more ≡ map conf_words later ++ others
+pub record Goes (lines all more others : List Line) : Type 0 where
+  pub later : List Line
+  pub whole : all ≡ lines ++ later
+  pub rest : more ≡ map conf_words later ++ others
 
-conf_goes : (lines all more others : List Line) → ((line : Line) (later : List Line) → others ≡ conf_words line ∷ later → ⊥)
+pub conf_goes : (lines all more others : List Line) → ((line : Line) (later : List Line) → others ≡ conf_words line ∷ later → ⊥)
     → map conf_words lines ++ more ≡ map conf_words all ++ others → Goes lines all more others
 conf_goes [] all more others apart e = record { later = all; whole = refl; rest = e }
 conf_goes (line ∷ lines) [] more others apart e = absurd (apart line (map conf_words lines ++ more) (sym e))
@@ -98,6 +101,8 @@ conf_are : (lines more : List Line) → AreLines (map conf_words lines ++ more) 
 conf_are [] more are = tt
 conf_are (line ∷ lines) more are = (conf_lacks line are.0, conf_are lines more are.1)
 
+-- ---- how lines in front go on
+
 feed_conf : (line : Line) → Lacks 10 line → Lacks 10 (conf_words line)
 unfolding line_words
 feed_conf line lacks = lacks
@@ -106,9 +111,35 @@ feeds_conf : (lines : List Line) → AreLines lines → AreLines (map conf_words
 feeds_conf [] are = tt
 feeds_conf (line ∷ lines) are = (feed_conf line are.0, feeds_conf lines are.1)
 
+configured_joins : (conf : List Line) (configuration : Configuration) → AreLines conf → IsConfOf (lines_text conf) (Ok configuration)
+    → Joins SpellsConfigured (SpellsNoticed configuration.notices) (map conf_words conf)
+configured_joins conf configuration are is = λ body lines spells.
+    let told : Told = record { conf = conf; configuration = configuration; body = body } in (
+      told,
+      record {
+        others = lines;
+        are = refl;
+        each = all_join (Lacks 10) (map conf_words conf) lines (feeds_conf conf are) spells.each;
+        configured = is;
+        noticed = spells;
+      },
+    )
+
+-- some transcript begins with the lines of a configuration
+conf_begins : LinesAreRead → (conf : List Line) (configuration : Configuration) → AreLines conf → IsConfOf (lines_text conf) (Ok configuration)
+    → Begins SpellsConfigured (lines_text (map conf_words conf))
+conf_begins law conf configuration are is =
+    let notices = map notice_words configuration.notices in
+    let each = notices_are conf configuration are is in
+    let noticed =
+    begins_later (SpellsNoticed configuration.notices) SpellsBody notices [] (noticed_joins configuration.notices each) (first_body law) in
+    let none = shorter (SpellsNoticed configuration.notices) [] (notices ++ []) noticed in
+    subst (λ ls. Begins SpellsConfigured (lines_text ls)) (append-nil (map conf_words conf))
+    (begins_later SpellsConfigured (SpellsNoticed configuration.notices) (map conf_words conf) [] (configured_joins conf configuration are is) none)
+
 -- ---- a fault of the configuration
 
-abbrev conf_or : Configuration → Result Configuration ConfFault → Configuration
+abbrev pub conf_or : Configuration → Result Configuration ConfFault → Configuration
 conf_or default (Ok configuration) = configuration
 conf_or default (Err fault) = default
 
@@ -137,6 +168,7 @@ faulty_halts law one text conf rest line number read faulty =
           ∙ append_assoc (lines_text (map conf_words f.before)) (lines_text (map conf_words (f.line ∷ f.later))) rest
           ∙ ap (λ t. lines_text (map conf_words f.before) ++ t) (append_assoc (ended (conf_words f.line)) (lines_text (map conf_words f.later)) rest);
       counted = count ∙ ap (λ n. n + 1) (sym (length_mapped conf_words f.before));
+      before = conf_begins law f.before f.configuration (front_are f.before (f.line ∷ f.later) feeds) f.good;
       none = λ told more spells same.
           let front = first_line more (conf_words f.line) (later_are (map conf_words f.before) more spells.each) (same ∙ here) in
           let joined : map conf_words (f.before ++ f.line ∷ []) ++ front.later ≡ map conf_words f.before ++ more =
@@ -181,15 +213,16 @@ body_halts notices text rest line number further noticed bad counted =
       are = bad.are;
       cut = bad.cut;
       counted = bad.counted;
+      before = bad.before;
       none = none_goes_on SpellsBody body_are rest bad.lines bad.rest bad.cut bad.breaks;
     } in
     let length_is : length (map notice_words notices) ≡ length noticed.before = length_mapped notice_words notices ∙ ap length all in
     let first = noticed.counted in
-    halts_later (SpellsNoticed notices) SpellsBody (noticed_lines notices) (map notice_words notices) text rest number further
-    (subst (λ ns. AreLines (map notice_words ns)) (sym all) noticed.are)
+    let are = subst (λ ns. AreLines (map notice_words ns)) (sym all) noticed.are in
+    halts_later (SpellsNoticed notices) SpellsBody (noticed_lines notices) (map notice_words notices) text rest number further are
     (subst (λ ns. text ≡ lines_text (map notice_words ns) ++ rest) (sym all) noticed.cut)
     (omega (arith, counted, first, length_is))
-    (noticed_turns notices rest) inner
+    (noticed_turns notices rest) (noticed_joins notices are) inner
 
 pub body_comes : {J : Type 0} (first : Configuration → J) (after : J → Model.Line → J) (configuration : Configuration) (text rest : List ℕ) (line : ℕ) (end : J)
     → AreNoticed configuration.notices text rest line → IsFollowed after rest (first configuration) end
@@ -258,7 +291,13 @@ noticed_halts law one configuration text conf rest line number further read is h
     let configured = subst (λ t. IsConfOf t (Ok configuration)) taken.says is in
     halts_later SpellsConfigured (SpellsNoticed configuration.notices) configured_lines (map conf_words taken.lines) text rest number further
     (feeds_conf taken.lines taken.are) taken.cut (omega (arith, counted, first, length_is))
-    (configured_turns law one taken.lines configuration rest configured read.all) halts
+    (configured_turns law one taken.lines configuration rest configured read.all) (configured_joins taken.lines configuration taken.are configured) halts
+
+-- the lines of the notices of what was read
+pub read_notices : (configuration : Configuration) (text conf rest : List ℕ) (line : ℕ) → AreConfLines text conf rest line → IsConfOf conf (Ok configuration)
+    → AreLines (map notice_words configuration.notices)
+read_notices configuration text conf rest line read is =
+    notices_are read.so_far.lines configuration read.so_far.are (subst (λ t. IsConfOf t (Ok configuration)) read.so_far.says is)
 
 pub noticed_comes : {J : Type 0} (first : Configuration → J) (after : J → Model.Line → J) (configuration : Configuration) (text conf rest : List ℕ) (line : ℕ)
     (end : J)
@@ -301,28 +340,53 @@ words_after : (conf : List Line) (notices : List NoticeContent)
 words_after [] notices = words_of notices
 words_after (line ∷ conf) notices = ap (λ ls. conf_words line ∷ ls) (words_after conf notices)
 
-told_turns : (body : List ℕ) → Turns SpellsTold SpellsConfigured (head_words ∷ []) body
-told_turns body =
-    λ told more spells same.
+-- after the first line there stand a configuration, its notices and a body
+pub told_configured : (told : Told) (more : List Line) → SpellsTold told (head_words ∷ more) → SpellsConfigured told more
+told_configured told more spells =
     let conf = map conf_words told.conf in
     let notices = map notice_words told.configuration.notices in
     let are : more ≡ conf ++ (notices ++ spells.others) =
     ap after_first spells.are ∙ ap (λ ls. ls ++ spells.others) (words_after told.conf told.configuration.notices)
     ∙ append_assoc conf notices spells.others in
-    let each = subst AreLines are spells.each.1 in (
-      told,
-      record {
-        others = notices ++ spells.others;
-        are = are;
-        each = spells.each.1;
-        configured = spells.configured;
-        noticed = record { others = spells.others; are = refl; each = later_are conf (notices ++ spells.others) each; spells = spells.spells };
-      },
-    )
+    let each = subst AreLines are spells.each.1 in
+    record {
+      others = notices ++ spells.others;
+      are = are;
+      each = spells.each.1;
+      configured = spells.configured;
+      noticed = record { others = spells.others; are = refl; each = later_are conf (notices ++ spells.others) each; spells = spells.spells };
+    }
+
+told_turns : (body : List ℕ) → Turns SpellsTold SpellsConfigured (head_words ∷ []) body
+told_turns body = λ told more spells same. (told, told_configured told more spells)
 
 head_lacks : Lacks 10 head_words
 unfolding line_words
 head_lacks = refl
+
+told_joined : (told : Told) (lines : List Line) → SpellsConfigured told lines → SpellsTold told (head_words ∷ lines)
+told_joined told lines spells =
+    let conf = map conf_words told.conf in
+    let notices = map notice_words told.configuration.notices in
+    let noticed = spells.noticed in
+    record {
+      others = noticed.others;
+      are = ap (λ ls. head_words ∷ ls)
+          (spells.are ∙ ap (λ ls. conf ++ ls) noticed.are ∙ sym (append_assoc conf notices noticed.others)
+          ∙ ap (λ ls. ls ++ noticed.others) (sym (words_after told.conf told.configuration.notices)));
+      each = (head_lacks, spells.each);
+      configured = spells.configured;
+      spells = noticed.spells;
+    }
+
+told_joins : Joins SpellsTold SpellsConfigured (head_words ∷ [])
+told_joins = λ told lines spells. (told, told_joined told lines spells)
+
+-- some text is a transcript
+told_begins : LinesAreRead → Begins SpellsTold []
+told_begins law =
+    shorter SpellsTold [] (head_words ∷ [])
+    (begins_later SpellsTold SpellsConfigured (head_words ∷ []) [] told_joins (conf_begins law [] (configured []) tt empty_conf))
 
 halts_told : (text : List ℕ) (number : ℕ) → HaltsAt SpellsTold text number → IsBadLine text number
 halts_told text number halts = record {
@@ -331,12 +395,14 @@ halts_told text number halts = record {
   are = halts.are;
   cut = halts.cut;
   counted = halts.counted;
+  before = halts.before;
+  why = tt;
   breaks = breaks_lines SpellsTold told_lines text halts.lines halts.rest halts.are halts.cut halts.none;
 }
 
 -- a transcript begins with its first line
-pub first_bad : (text : List ℕ) → front_in text ≢ Whole head_words → IsBadLine text 1
-first_bad text other =
+first_bad : LinesAreRead → (text : List ℕ) → front_in text ≢ Whole head_words → IsBadLine text 1
+first_bad law text other =
     halts_told text 1
     (record {
       lines = [];
@@ -344,6 +410,7 @@ first_bad text other =
       are = tt;
       cut = refl;
       counted = refl;
+      before = told_begins law;
       none = λ told more spells same.
           let here : more ≡ head_words ∷ after_first (map line_words (head_lines told.conf told.configuration) ++ spells.others) =
           spells.are in
@@ -364,17 +431,17 @@ front_none [] line e same = let never : End ≡ Whole line = same in cc
 front_none (byte ∷ bytes) line e same =
     let never : Unended (byte ∷ bytes) ≡ Whole line = ap (front_by (byte ∷ bytes)) e ∙ same in cc
 
-pub unended_first : (text : List ℕ) → None ≡ split_at_byte 10 text → IsBadLine text 1
-unended_first text e = first_bad text (front_none text head_words e)
+pub unended_first : LinesAreRead → (text : List ℕ) → None ≡ split_at_byte 10 text → IsBadLine text 1
+unended_first law text e = first_bad law text (front_none text head_words e)
 
 head_is : codes "dhcpcd-transcript 1" ≡ head_words
 unfolding line_words
 head_is = refl
 
-pub other_first : (text first rest : List ℕ) → Some (first, rest) ≡ split_at_byte 10 text → bytes_eq first (codes "dhcpcd-transcript 1") ≡ false
+pub other_first : LinesAreRead → (text first rest : List ℕ) → Some (first, rest) ≡ split_at_byte 10 text → bytes_eq first (codes "dhcpcd-transcript 1") ≡ false
     → IsBadLine text 1
-other_first text first rest e other =
-    first_bad text
+other_first law text first rest e other =
+    first_bad law text
     (λ same.
     let both : first ≡ head_words = same_whole first head_words (sym (front_is text first rest e) ∙ same) in
     let never : false ≡ true = sym other ∙ (bytes_eq-Decides first (codes "dhcpcd-transcript 1")).1 (both ∙ sym head_is) in
@@ -392,32 +459,19 @@ pub configured_bad : (text first rest : List ℕ) (number : ℕ) → Some (first
 configured_bad text first rest number e same halts =
     halts_told text (number + 1)
     (halts_later SpellsTold SpellsConfigured told_lines (head_words ∷ []) text rest number (number + 1) (head_lacks, tt) (text_of text first rest e same)
-    (omega arith) (told_turns rest) halts)
+    (omega arith) (told_turns rest) told_joins halts)
 
 pub configured_whole : {J : Type 0} (start : Configuration → J) (after : J → Model.Line → J) (text first rest : List ℕ) (end : J)
     → Some (first, rest) ≡ split_at_byte 10 text
     → bytes_eq first (codes "dhcpcd-transcript 1") ≡ true → Comes SpellsConfigured (end_of_told start after) rest end
     → IsFollowedWhole start after text end
 configured_whole start after text first rest end e same comes =
-    let told = comes.value in
     let spelled = comes.spelled in
-    let spells = spelled.spells in
-    let noticed = spells.noticed in
-    let conf = map conf_words told.conf in
-    let notices = map notice_words told.configuration.notices in
     record {
-      told = told;
+      told = comes.value;
       spelled = record {
         lines = head_words ∷ spelled.lines;
-        spells = record {
-          others = noticed.others;
-          are = ap (λ ls. head_words ∷ ls)
-              (spells.are ∙ ap (λ ls. conf ++ ls) noticed.are ∙ sym (append_assoc conf notices noticed.others)
-              ∙ ap (λ ls. ls ++ noticed.others) (sym (words_after told.conf told.configuration.notices)));
-          each = (head_lacks, spells.each);
-          configured = spells.configured;
-          spells = noticed.spells;
-        };
+        spells = told_joined comes.value spelled.lines spelled.spells;
         text_is = text_of text first rest e same ∙ ap (λ t. lines_text (head_words ∷ []) ++ t) spelled.text_is
             ∙ ap (λ t. t ++ lines_text spelled.lines) (append-nil (ended head_words));
       };

@@ -1,5 +1,6 @@
 -- Which lines are taken to an end: those of interfaces and lives.
 use Rattle.std.proofs.Common.{◌≡◌, ℕ, ◌+◌, Bool, true, false, cond, List, [], ◌∷◌, ◌++◌, map, length, Option, Some, None, option_and_then, refl, sym, ap, ◌∙◌, subst, arith, eqb, append_assoc}
+use Rattle.std.specs.List.{AllByRecursion}
 use Rattle.std.proofs.lemmas.Bool.{eq-eqb, eqb-true}
 use Rattle.std.proofs.lemmas.List.{append-nil}
 use Rattle.net_types.specs.declared.interface.IfSpec.{IfSpec}
@@ -21,7 +22,7 @@ use Rattle.transcript_read.specs.declared.place.Place.TheVariants as places
 use Rattle.transcript_read.specs.declared.place.Within.{Within}
 use Rattle.transcript_read.specs.Bodies.{is_end}
 use Rattle.transcript_read.specs.Places.{Spot, ended, first_life, goes_on, life_start, next_ifaces, next_life, next_place, next_spot, next_within, walk}
-use Rattle.transcript_read.proofs.InnerLaws.{Good, good_next, is_inner, kept, next_good, stepped, steps}
+use Rattle.transcript_read.proofs.InnerLaws.{FitRoles, Good, good_next, is_inner, kept, next_good, stepped, steps}
 
 -- ---- a life as its lines
 
@@ -67,39 +68,42 @@ inner_ifaces ifaces (roles.Row row) e = refl
 inner_ifaces ifaces roles.Other e = refl
 inner_ifaces ifaces roles.End e = refl
 
-inner_walk : (inner more : List Line) (within : Within) (ifaces : List IfSpec) → Good within inner
+pub inner_walk : (inner more : List Line) (within : Within) (ifaces : List IfSpec) → FitRoles inner → Good within inner
     → walk (inner ++ Model.EndOfLife ∷ more) (spot ifaces (places.Within within)) ≡ walk more (spot ifaces (places.Between within.number))
-inner_walk [] more within ifaces good =
+inner_walk [] more within ifaces fits good =
     let none : within.left ≡ 0 = sym good.counted in
     let place : ended within roles.End ≡ Some (places.Between within.number) =
     ap (λ b. cond b (Some (places.Between within.number)) None) (eq-eqb within.left 0 none) in
     walk_step Model.EndOfLife more (spot ifaces (places.Within within)) (spot ifaces (places.Between within.number))
     (spot_step (spot ifaces (places.Within within)) Model.EndOfLife (places.Between within.number) ifaces place refl)
-inner_walk (line ∷ inner) more within ifaces good =
+inner_walk (line ∷ inner) more within ifaces fits good =
     let g = good_next within line inner good in
-    let s = steps within (role_of line) inner g in
+    let s = steps within (role_of line) inner fits.1 g in
     let place : goes_on (next_within within (role_of line)) (ended within (role_of line)) ≡ Some (places.Within s.next) =
     ap (λ o. goes_on o (ended within (role_of line))) s.is in
     walk_step line (inner ++ Model.EndOfLife ∷ more) (spot ifaces (places.Within within)) (spot ifaces (places.Within s.next))
     (spot_step (spot ifaces (places.Within within)) line (places.Within s.next) ifaces place (inner_ifaces ifaces (role_of line) g.is))
-    ∙ inner_walk inner more s.next ifaces s.good
+    ∙ inner_walk inner more s.next ifaces fits.1 s.good
     ∙ ap (λ n. walk more (spot ifaces (places.Between n))) s.same
 
-pub life_walk : (number : ℕ) (life : Life) (more : List Line) (ifaces : List IfSpec) → Good (opened number life.begin.at) life.inner
+pub life_walk : (number : ℕ) (life : Life) (more : List Line) (ifaces : List IfSpec) → FitRoles life.inner → Good (opened number life.begin.at) life.inner
     → walk (after_number number life more) (spot ifaces (places.Numbered number)) ≡ walk more (spot ifaces (places.Between number))
-life_walk number life more ifaces good = inner_walk life.inner more (opened number life.begin.at) ifaces good
+life_walk number life more ifaces fits good = inner_walk life.inner more (opened number life.begin.at) ifaces fits good
 
-pub lives_walk : (lives : List Life) (number : ℕ) (ifaces : List IfSpec) → LivesFit (number + 1) lives
+abbrev pub RolesOfLives : List Life → Type 0
+RolesOfLives lives = AllByRecursion (λ life. FitRoles life.inner) lives
+
+pub lives_walk : (lives : List Life) (number : ℕ) (ifaces : List IfSpec) → RolesOfLives lives → LivesFit (number + 1) lives
     → walk (lives_in (number + 1) lives) (spot ifaces (places.Between number)) ≡ Some (spot ifaces (places.Between (number + length lives)))
-lives_walk [] number ifaces fit = ap (λ n. Some (spot ifaces (places.Between n))) (omega arith)
-lives_walk (life ∷ lives) number ifaces fit =
+lives_walk [] number ifaces fits fit = ap (λ n. Some (spot ifaces (places.Between n))) (omega arith)
+lives_walk (life ∷ lives) number ifaces fits fit =
     let more = lives_in (number + 1 + 1) lives in
     let place : next_life number (roles.Life (number + 1)) ≡ Some (places.Numbered (number + 1)) =
     ap (λ b. cond b (Some (places.Numbered (number + 1))) None) (eq-eqb (number + 1) (number + 1) refl) in
     walk_step (Model.Life (number + 1)) (after_number (number + 1) life more) (spot ifaces (places.Between number)) (spot ifaces (places.Numbered (number + 1)))
     (spot_step (spot ifaces (places.Between number)) (Model.Life (number + 1)) (places.Numbered (number + 1)) ifaces place refl)
-    ∙ life_walk (number + 1) life more ifaces fit.0
-    ∙ lives_walk lives (number + 1) ifaces fit.1
+    ∙ life_walk (number + 1) life more ifaces fits.0 fit.0
+    ∙ lives_walk lives (number + 1) ifaces fits.1 fit.1
     ∙ ap (λ n. Some (spot ifaces (places.Between n))) (omega arith)
 
 -- ---- what is taken to an end

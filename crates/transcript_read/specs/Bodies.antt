@@ -1,13 +1,13 @@
 -- How the lines after the head are read, one after another, with what goes through them.
-use Rattle.std.specs.Prelude.{◌≡◌, ℕ, ◌+◌, Bool, true, false, List, [], ◌∷◌, ◌++◌, length, Option, Some, None, option_map, if◌then◌else◌}
+use Rattle.std.specs.Prelude.{◌≡◌, ℕ, Bool, true, false, List, [], ◌∷◌, Option, Some, None, option_map, if◌then◌else◌}
 use Rattle.std.specs.List.{list_all}
 use Rattle.net_types.specs.declared.fault.BadText.{BadText}
 use Rattle.net_types.specs.Cutting.{◌>>=◌}
-use Rattle.net_types.specs.FirstBadLine.{Breaks, IsSpelled}
+use Rattle.net_types.specs.FirstBadLine.{FirstBad, IsSpelled}
 use Rattle.net_types.specs.LineReading.{Stopped}
 use Rattle.net_types.specs.Marks.{is_printable}
 use Rattle.net_types.specs.TextLines as TextLines
-use Rattle.net_types.specs.TextLines.{AreLines, Front, front_in, lines_text}
+use Rattle.net_types.specs.TextLines.{Front}
 use Rattle.script_model.specs.Lines.{Line}
 use Rattle.transcript_lines.specs.LineReading.{line_at}
 use Rattle.transcript_model.specs.Told.{BodyTold, body_lines}
@@ -62,14 +62,13 @@ pub record IsFollowed {J : Type 0} (after : J → Line → J) (text : List ℕ) 
   pub spelled : IsSpelled SpellsBody text body
   pub follows : end ≡ followed after first (body_lines body)
 
--- Line `number` is one with which no body goes on after the lines before it; where the text ends there, it is no body.
-pub record IsBadAt (text : List ℕ) (number : ℕ) : Type 0 where
-  pub lines : List TextLines.Line
-  pub rest : List ℕ
-  pub are : AreLines lines
-  pub cut : text ≡ lines_text lines ++ rest
-  pub counted : number ≡ length lines + 1
-  pub breaks : Breaks SpellsBody text lines (front_in rest)
+abbrev pub AnyCause : List TextLines.Line → Front → Unit {0} → Type 0
+AnyCause lines front cause = Unit {0}
+
+-- the first bad line: some body begins with the lines before it, and none goes on with it; where the text ends there,
+-- it is none
+abbrev pub IsBadAt : List ℕ → ℕ → Type 0
+IsBadAt text number = FirstBad SpellsBody AnyCause text number tt
 
 abbrev pub IsNoBody : List ℕ → BodyAnswer → Type 0
 IsNoBody text (answers.Bad line) = IsBadAt text line

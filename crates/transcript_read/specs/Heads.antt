@@ -1,7 +1,7 @@
 -- The head of a transcript: the lines of a configuration, and those of its notices; and what follows each of them.
 use Rattle.std.specs.Prelude.{◌≡◌, ◌≢◌, ℕ, ◌+◌, ◌-◌, ◌<◌, ◌^◌, List, [], ◌∷◌, ◌++◌, map, length, codes, Option, Some, Ok, Err}
 use Rattle.net_types.specs.Cutting.{◌>>=◌, split_at_byte, strip_word}
-use Rattle.net_types.specs.FirstBadLine.{IsSpelled}
+use Rattle.net_types.specs.FirstBadLine.{Begins, IsSpelled}
 use Rattle.net_types.specs.TextLines.{AreLines, Front, Line, Whole, front_in, lines_text}
 use Rattle.conf_text.specs.declared.answers.ConfFault.{ConfFault}
 use Rattle.conf_text.specs.Configurations.{Configuration, IsConfOf, NoticeContent}
@@ -110,13 +110,14 @@ abbrev pub NoneGoesOn : {V : Type 0} → (V → List Line → Type 0) → List L
 NoneGoesOn {V} Spells lines front =
     (value : V) (more : List Line) → Spells value (lines ++ more) → front_in (lines_text more) ≢ front
 
--- after lines that the text begins with no value goes on with what comes next
+-- lines that the text begins with begin some value's, and none goes on with what comes next
 pub record HaltsAt {V : Type 0} (Spells : V → List Line → Type 0) (text : List ℕ) (number : ℕ) : Type 0 where
   pub lines : List Line
   pub rest : List ℕ
   pub are : AreLines lines
   pub cut : text ≡ lines_text lines ++ rest
   pub counted : number ≡ length lines + 1
+  pub before : Begins Spells (lines_text lines)
   pub none : NoneGoesOn Spells lines (front_in rest)
 
 abbrev pub HaltsBy : {V : Type 0} → (V → List Line → Type 0) → List ℕ → TranscriptAnswer → Type 0

@@ -1,8 +1,13 @@
 -- Where in the body of a transcript a line stands, and which lines may come there.
-use Rattle.std.specs.Prelude.{ℕ, ◌+◌, ◌-◌, ◌&&◌, ◌==◌, nat_le, nat_lt, List, [], ◌∷◌, ◌++◌, Option, Some, None, if◌then◌else◌}
+use Rattle.std.specs.Prelude.{ℕ, ◌+◌, ◌-◌, ◌^◌, Bool, true, ◌&&◌, ◌==◌, nat_le, nat_lt, List, [], ◌∷◌, ◌++◌, Option, Some, None, if◌then◌else◌}
+use Rattle.std.specs.Ordering.{is_lt}
+use Rattle.net_types.specs.declared.address.Net.TheVariants.{V6}
 use Rattle.net_types.specs.declared.interface.IfSpec.{IfSpec}
 use Rattle.net_types.specs.Cutting.{◌>>=◌}
 use Rattle.world.specs.declared.rows.HostRow.{HostRow}
+use Rattle.world.specs.declared.rows.HostRow.TheVariants.{Route}
+use Rattle.world.specs.declared.rows.Via.TheVariants.{Gate6}
+use Rattle.world.specs.RowOrder.{row_cmp}
 use Rattle.script_model.specs.Lines.{Line}
 use Rattle.replay_text.specs.NextLines.{fits_next}
 use Rattle.transcript_lines.specs.declared.role.Role.{Role}
@@ -13,9 +18,19 @@ use Rattle.transcript_read.specs.declared.place.Place.{Place}
 use Rattle.transcript_read.specs.declared.place.Place.TheVariants as places
 use Rattle.transcript_read.specs.declared.place.Within.{Within}
 
+-- of all rows that a host can hold the one with so many above it
+unfoldable pub top_row : ℕ → HostRow
+top_row above =
+    Route (record { number = 64 }) (V6 (record { ip = record { number = 2 ^ 128 - 1 }; len = 128 }))
+    (Gate6 (record { number = 2 ^ 128 - 1 - above })) (2 ^ 32 - 1)
+
+-- so many rows can come after this one
+abbrev pub leaves_room : ℕ → HostRow → Bool
+leaves_room left row = if left == 0 then true else is_lt (row_cmp row (top_row (left - 1)))
+
 abbrev pub row_next : Within → HostRow → Option Within
 row_next within row =
-    if nat_lt 0 within.left && comes_after within.last row
+    if (nat_lt 0 within.left && comes_after within.last row) && leaves_room (within.left - 1) row
     then Some (record within { left = within.left - 1; last = Some row })
     else None
 

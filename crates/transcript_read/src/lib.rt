@@ -11,4 +11,4 @@ mod transcript;
 pub use answers::TranscriptAnswer;
 pub use body::{BodyAnswer, follow_body};
 pub use follower::Follower;
-pub use transcript::follow_transcript;
+pub use transcript::{a_text_is_one_transcript, follow_transcript};

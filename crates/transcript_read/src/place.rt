@@ -1,10 +1,16 @@
 //! Where in a transcript a line stands, and which lines may come there.
 ghost use Rattle.std.specs.Prelude.{◌≡◌};
 ghost use Rattle.transcript_model.specs.LifeShapes.{comes_after};
-ghost use Rattle.transcript_read.specs.Places.{ended, next_place, next_within, row_next};
+ghost use Rattle.transcript_read.specs.Places.{ended, leaves_room, next_place, next_within, row_next, top_row};
 
+use net_types::{IfIndex, Ip6, Net, Net6};
 use transcript_lines::Role;
-use world::HostRow;
+use world::{HostRow, Via};
+
+/// The greatest number of an interface.
+const LAST_INTERFACE: u32 = 64;
+/// The length of an address.
+const ADDRESS_BITS: u8 = 128;
 
 /// Within a life, after its start.
 #[derive(Clone, Copy)]
@@ -41,12 +47,41 @@ fn comes_after(last: Option<HostRow>, row: HostRow) -> bool
     }
 }
 
+/// Of all rows that a host can hold the one with so many above it in row order.
+#[tactic(auto, unfolding(crate::specs::Places::top_row))]
+fn top_row(above: u64) -> HostRow
+    ensures { result ≡ top_row above }
+{
+    let last = Ip6 { number: u128::MAX };
+    let gate = Ip6 {
+        number: u128::MAX - u128::from(above),
+    };
+    HostRow::Route {
+        iface: IfIndex {
+            number: LAST_INTERFACE,
+        },
+        dest: Net::V6(Net6 {
+            ip: last,
+            len: ADDRESS_BITS,
+        }),
+        via: Via::Gate6(gate),
+        metric: u32::MAX,
+    }
+}
+
+/// Whether so many rows can come after this one.
+fn leaves_room(left: u64, row: HostRow) -> bool
+    ensures { result ≡ leaves_room left row }
+{
+    left == 0 || row.cmp(&top_row(left - 1)).is_lt()
+}
+
 impl Within {
     /// With one more row of a listing.
     fn with_row(self, row: HostRow) -> Option<Within>
         ensures { result ≡ row_next self row }
     {
-        if self.left > 0 && comes_after(self.last, row) {
+        if self.left > 0 && comes_after(self.last, row) && leaves_room(self.left - 1, row) {
             Some(Within {
                 left: self.left - 1,
                 last: Some(row),

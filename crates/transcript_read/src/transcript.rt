@@ -1,10 +1,10 @@
 //! A whole transcript, read in one pass.
-ghost use Rattle.std.specs.Prelude.{IfErr, IfOk, Ok};
+ghost use Rattle.std.specs.Prelude.{IfErr, IfOk, Ok, map};
+ghost use Rattle.net_types.specs.TextLines.{AreLines};
 ghost use Rattle.conf_text.specs.Configurations.{IsConfOf};
 ghost use Rattle.conf_text.specs.Contents.{configuration};
-ghost use Rattle.transcript_read.specs.Bodies.{followed};
-ghost use Rattle.transcript_read.specs.Heads.{Comes, IsFaulty, SpellsConfigured, SpellsNoticed, HaltsBy, end_of_body, end_of_told};
-ghost use Rattle.transcript_read.specs.Whole.{IsFollowedWhole, IsNoTranscript};
+ghost use Rattle.transcript_read.specs.Heads.{Comes, IsFaulty, SpellsConfigured, SpellsNoticed, HaltsBy, end_of_body, end_of_told, notice_words};
+ghost use Rattle.transcript_read.specs.Whole.{IsFollowedWhole, IsNoTranscript, TranscriptsAreOne};
 
 use crate::answers::TranscriptAnswer;
 use crate::body::{BodyAnswer, follow_body};
@@ -48,8 +48,11 @@ fn follow_noticed<F: Follower + Drop>(
     ensures found { IfOk result
         (λ end. Comes (SpellsNoticed (configuration conf).notices) (end_of_body F.first F.after (configuration conf))
         text.now (F.state end)) }
-    ensures bad { IfErr result (λ answer. HaltsBy (SpellsNoticed (configuration conf).notices) text.now answer) }
+    ensures bad { IfErr result
+        (λ answer. AreLines (map notice_words (configuration conf).notices)
+        → HaltsBy (SpellsNoticed (configuration conf).notices) text.now answer) }
 {
+    a_text_spells_one_line();
     let (rest, line) = match after_notices(alloc, notices(&conf), text) {
         Ok(after) => after,
         Err(answer) => return Err(answer),
@@ -95,6 +98,7 @@ pub fn follow_transcript<F: Follower + Drop>(
     ensures found { IfOk result (λ end. IsFollowedWhole F.first F.after text.now (F.state end)) }
     ensures bad { IfErr result (λ answer. IsNoTranscript text.now answer) }
 {
+    a_text_spells_one_line();
     let Some((first, rest)) = split_at_byte(text, b'\n') else {
         return Err(TranscriptAnswer::Bad { line: 1 });
     };
@@ -106,4 +110,12 @@ pub fn follow_transcript<F: Follower + Drop>(
         Err(TranscriptAnswer::Bad { line }) => Err(TranscriptAnswer::Bad { line: line + 1 }),
         Err(TranscriptAnswer::NoMemory) => Err(TranscriptAnswer::NoMemory),
     }
+}
+
+/// A text is one transcript at most.
+pub fn a_text_is_one_transcript()
+    ensures { TranscriptsAreOne }
+{
+    a_text_spells_one_line();
+    configuration_is_one();
 }

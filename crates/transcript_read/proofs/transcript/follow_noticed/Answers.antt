@@ -2,13 +2,14 @@ use Rattle.std.proofs.Common.{rules, subst, refl}
 use Rattle.conf_text.specs.Contents.{configuration}
 use Rattle.transcript_read.specs.Bodies.{IsFollowed}
 use Rattle.transcript_read.specs.Heads.{AreNoticed, LacksNotice}
+use Rattle.transcript_read.proofs.EndLaws.{first_body}
 use Rattle.transcript_read.proofs.HeadLaws.{notice_halts, noticed_within}
 use Rattle.transcript_read.proofs.TranscriptLaws.{bad_within, body_comes, body_halts}
 use Rattle.transcript_read.proofs.transcript.follow_noticed.Goals as goal
 
 pub returns-in-Err-clause-bad : goal.returns-in-Err-clause-bad
-returns-in-Err-clause-bad g c =
-    notice_halts (configuration c.args.conf).notices c.args.text.now c.in-Err.answer
+returns-in-Err-clause-bad g c = λ each.
+    notice_halts (configuration c.args.conf).notices c.args.text.now c.in-Err.answer each (first_body c.a_text_spells_one_line.ensures)
     (subst (λ notices. LacksNotice notices c.args.text.now c.in-Err.answer) c.notices.ensures c.in-Err.ensures.bad)
 
 pub overflow_add-result : goal.overflow_add-result
@@ -26,7 +27,7 @@ returns-in-Ok-follow_body-clause-found g c =
     c.in-Ok-follow_body.ensures.found)
 
 pub returns-in-Err-Bad-clause-bad : goal.returns-in-Err-Bad-clause-bad
-returns-in-Err-Bad-clause-bad g c =
+returns-in-Err-Bad-clause-bad g c = λ each.
     body_halts (configuration c.args.conf).notices c.args.text.now c.in-Ok.after.0.now c.in-Ok.after.1 c.in-Err-Bad.further _
     (subst (λ notices. AreNoticed notices c.args.text.now c.in-Ok.after.0.now c.in-Ok.after.1) c.notices.ensures c.in-Ok.ensures.found)
     (rw c.in-Err-Bad.field-0-is at c.in-Err-Bad.ensures.bad) refl

@@ -4,12 +4,12 @@ use Rattle.transcript_read.proofs.TranscriptLaws.{configured_bad, configured_who
 use Rattle.transcript_read.proofs.transcript.follow_transcript.Goals as goal
 
 pub returns-in_default-clause-bad : goal.returns-in_default-clause-bad
-returns-in_default-clause-bad g c = unended_first c.args.text.now c.in_default.ensures
+returns-in_default-clause-bad g c = unended_first c.a_text_spells_one_line.ensures c.args.text.now c.in_default.ensures
 
 pub returns-then-ne-clause-bad : goal.returns-then-ne-clause-bad
 returns-then-ne-clause-bad g c =
     let other : bytes_eq c.in-Some.first.now (codes "dhcpcd-transcript 1") ≡ false = search rules in
-    other_first c.args.text.now c.in-Some.first.now c.in-Some.rest.now c.in-Some.ensures other
+    other_first c.a_text_spells_one_line.ensures c.args.text.now c.in-Some.first.now c.in-Some.rest.now c.in-Some.ensures other
 
 pub overflow_add-result : goal.overflow_add-result
 overflow_add-result g c =

@@ -1,0 +1,3 @@
+pub mod SpelledLeases
+pub mod SpelledLeases6
+mod NameTexts

@@ -1,0 +1,4 @@
+pub mod Staying
+pub mod Asking4
+pub mod Asking6
+pub mod Laws

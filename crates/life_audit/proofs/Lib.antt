@@ -1,0 +1,2 @@
+mod HostShown
+pub mod LinesRest

@@ -1,0 +1,6 @@
+ghost use Rattle.static_judge.specs.Judge.{StaticsHaveBases};
+
+/// Law: an address stands as a static one exactly where it has the basis of one.
+pub fn static_addresses_have_bases()
+    ensures { StaticsHaveBases }
+{}
