@@ -45,3 +45,7 @@ received_so millis peer buffer size sender (Some len) old mid new is limited rec
   port = is.2;
   asked = rw is.0 (then (Received (Ok (record { bytes = take size buffer; sender = sender }))) (Limited millis None ∷ []) old mid new limited received);
 }
+
+-- an answer that was counted
+pub counted_so : (P : DeviceAnswer → Type 0) (answer result : DeviceAnswer) → result ≡ answer → P answer → P result
+counted_so P answer result same given = rw same given

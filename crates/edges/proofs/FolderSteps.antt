@@ -1,14 +1,16 @@
 -- Pieces of a file and names of a folder, one after another.
-use Rattle.std.proofs.Common.{◌≡◌, ℕ, true, List, [], ◌∷◌, ◌++◌, Option, None, Some, Result, Ok, Err, filter, length, take, drop, append_assoc, append-nil, refl, sym, ap, subst, ◌∙◌}
+use Rattle.std.proofs.Common.{arith, ◌≡◌, ◌≤◌, ◌+◌, ℕ, true, inl, inr, List, [], ◌∷◌, ◌++◌, Option, None, Some, Result, Ok, Err, filter, length, take, drop, append_assoc, append-nil, refl, sym, ap, subst, ◌∙◌}
 use Rattle.std.proofs.Math.Seq.{take-append_seam}
 use Rattle.std.proofs.lemmas.List.{take-append-drop}
 use Rattle.std.proofs.lemmas.List.Elements.{filter-append}
 use Rattle.std.specs.Prelude.{IsTrue}
 use Rattle.std.specs.List.{list_all}
 use Rattle.std.specs.declared.io.ErrorKind.{ErrorKind}
-use Rattle.edges.specs.Asking.{Does}
-use Rattle.edges.specs.DiskCalls.{DiskCall, Opened, Made, Read, Wrote, Synced, Closed, Renamed, Removed, Listed, Named, read_by, written_by, named_by, is_piece, is_read, is_write, is_entry, is_no_text}
-use Rattle.edges.specs.FolderCalls.{WritesAll, WritesSome, ReadsAll, ReadsSome, ListsEntry, ListsOn, is_aside_name}
+use Rattle.world.specs.declared.faults.DeviceAnswer.{DeviceAnswer}
+use Rattle.world.specs.declared.faults.DeviceAnswer.TheVariants as Answer
+use Rattle.edges.specs.Asking.{Does, reason_of}
+use Rattle.edges.specs.DiskCalls.{DiskCall, Opened, Made, Read, Wrote, Synced, Closed, Renamed, Removed, Listed, Named, read_by, written_by, named_by, is_piece, is_write, is_entry, is_no_text}
+use Rattle.edges.specs.FolderCalls.{GivesNothing, WritesAll, WritesSome, ReadsAll, ReadsSome, FailsToName, ListsEntry, ListsOn, ListsSome, is_aside_name, most_pieces}
 use Rattle.edges.proofs.Doing.{then, nothing}
 
 -- what was written so far, and the rest
@@ -45,38 +47,42 @@ all_written bytes rest old new none h = record {
   asked = h.asked;
 }
 
-pub some_written : (bytes rest : List ℕ) (answer : Result ℕ ErrorKind) (old mid new : Option (List DiskCall)) → Writing bytes rest old mid
-    → Does (Wrote rest answer ∷ []) mid new → WritesSome old new
-some_written bytes rest answer old mid new h last = record {
-  pieces = Wrote rest answer ∷ h.pieces;
+pub some_written : (bytes rest : List ℕ) (answer : Result ℕ ErrorKind) (failure : ErrorKind) (old mid new : Option (List DiskCall))
+    → GivesNothing answer failure → Writing bytes rest old mid → Does (Wrote rest answer ∷ []) mid new → WritesSome bytes failure old new
+some_written bytes rest answer failure old mid new none h last = record {
+  pieces = h.pieces;
   writes = h.writes;
+  rest = rest;
+  front = h.so_far;
+  answer = answer;
+  gives_nothing = none;
   asked = then (Wrote rest answer) h.pieces old mid new h.asked last;
 }
 
--- what was read so far
-pub record Reading (old new : Option (List DiskCall)) (before after : List ℕ) : Type 0 where
+-- what was read so far, in so many pieces
+pub record Reading (count : ℕ) (old new : Option (List DiskCall)) (before after : List ℕ) : Type 0 where
   pub pieces : List DiskCall
   pub pieced : IsTrue (list_all is_piece pieces)
-  pub reads : IsTrue (list_all is_read pieces)
+  pub counted : length pieces ≡ count
   pub appended : after ≡ before ++ read_by pieces
   pub asked : Does pieces old new
 
-pub reading_begins : (old : Option (List DiskCall)) (before : List ℕ) → Reading old old before before
-reading_begins old before = record { pieces = []; pieced = refl; reads = refl; appended = sym (append-nil before); asked = nothing old }
+pub reading_begins : (old : Option (List DiskCall)) (before : List ℕ) → Reading 0 old old before before
+reading_begins old before = record { pieces = []; pieced = refl; counted = refl; appended = sym (append-nil before); asked = nothing old }
 
-pub reading_goes_on : (old mid new : Option (List DiskCall)) (before after more bytes : List ℕ) → more ≡ after ++ bytes → Reading old mid before after
-    → Does (Read (Ok bytes) ∷ []) mid new → Reading old new before more
-reading_goes_on old mid new before after more bytes is h last = record {
+pub reading_goes_on : (count next : ℕ) (old mid new : Option (List DiskCall)) (before after more bytes : List ℕ) → next ≡ count + 1 → more ≡ after ++ bytes
+    → Reading count old mid before after → Does (Read (Ok bytes) ∷ []) mid new → Reading next old new before more
+reading_goes_on count next old mid new before after more bytes one is h last = record {
   pieces = Read (Ok bytes) ∷ h.pieces;
   pieced = h.pieced;
-  reads = h.reads;
+  counted = let counted = h.counted in omega arith;
   appended = is ∙ ap (λ xs. xs ++ bytes) h.appended ∙ append_assoc before (read_by h.pieces) bytes;
   asked = then (Read (Ok bytes)) h.pieces old mid new h.asked last;
 }
 
-pub all_read : (n : ℕ) (buffer : List ℕ) (old mid new : Option (List DiskCall)) (before after : List ℕ) → n ≡ 0 → Reading old mid before after
-    → Does (Read (Ok (take n buffer)) ∷ []) mid new → ReadsAll old new before after
-all_read n buffer old mid new before after none h last = record {
+pub all_read : (count n : ℕ) (buffer : List ℕ) (old mid new : Option (List DiskCall)) (before after : List ℕ) → n ≡ 0
+    → Reading count old mid before after → Does (Read (Ok (take n buffer)) ∷ []) mid new → ReadsAll old new before after
+all_read count n buffer old mid new before after none h last = record {
   pieces = h.pieces;
   reads = h.pieced;
   appended = h.appended;
@@ -84,29 +90,47 @@ all_read n buffer old mid new before after none h last = record {
 }
 
 -- what was there before stands in front
-pub front_kept : (old new : Option (List DiskCall)) (before after : List ℕ) → Reading old new before after → take (length before) after ≡ before
-front_kept old new before after h = rw h.appended (take-append_seam before (read_by h.pieces))
+pub front_kept : (count : ℕ) (old new : Option (List DiskCall)) (before after : List ℕ) → Reading count old new before after
+    → take (length before) after ≡ before
+front_kept count old new before after h = rw h.appended (take-append_seam before (read_by h.pieces))
 
-pub some_read : (answer : Result (List ℕ) ErrorKind) (old mid new : Option (List DiskCall)) (before after : List ℕ) → Reading old mid before after
-    → Does (Read answer ∷ []) mid new → ReadsSome old new
-some_read answer old mid new before after h last = record {
-  pieces = Read answer ∷ h.pieces;
-  reads = h.reads;
-  asked = then (Read answer) h.pieces old mid new h.asked last;
+-- a piece that failed
+pub piece_failed : (count : ℕ) (failure : ErrorKind) (answer : DeviceAnswer) (old mid new : Option (List DiskCall)) (before after : List ℕ)
+    → answer ≡ reason_of failure → Reading count old mid before after → Does (Read (Err failure) ∷ []) mid new → ReadsSome answer old new
+piece_failed count failure answer old mid new before after why h last = record {
+  pieces = h.pieces;
+  reads = h.pieced;
+  ends = inl (failure, why, then (Read (Err failure)) h.pieces old mid new h.asked last);
 }
 
-pub read_so_far : (old new : Option (List DiskCall)) (before after : List ℕ) → Reading old new before after → ReadsSome old new
-read_so_far old new before after h = record { pieces = h.pieces; reads = h.reads; asked = h.asked }
+-- a piece that couldn't be kept
+pub piece_lost : (count : ℕ) (bytes : List ℕ) (old mid new : Option (List DiskCall)) (before after : List ℕ) → Reading count old mid before after
+    → Does (Read (Ok bytes) ∷ []) mid new → ReadsSome Answer.NoMemory old new
+piece_lost count bytes old mid new before after h last = record {
+  pieces = Read (Ok bytes) ∷ h.pieces;
+  reads = h.pieced;
+  ends = inr (inl (refl, then (Read (Ok bytes)) h.pieces old mid new h.asked last));
+}
 
--- the names that were listed so far
-pub record Listing (old new : Option (List DiskCall)) (before after : List (List ℕ)) : Type 0 where
+-- too many pieces
+pub too_many_pieces : (count : ℕ) (old new : Option (List DiskCall)) (before after : List ℕ) → most_pieces ≤ count → Reading count old new before after
+    → ReadsSome Answer.Failed old new
+too_many_pieces count old new before after many h = record {
+  pieces = h.pieces;
+  reads = h.pieced;
+  ends = inr (inr (refl, rw h.counted many, h.asked));
+}
+
+-- the names that were listed so far, by so many calls
+pub record Listing (count : ℕ) (old new : Option (List DiskCall)) (before after : List (List ℕ)) : Type 0 where
   pub entries : List DiskCall
+  pub counted : length entries ≡ count
   pub names : IsTrue (list_all is_entry entries)
   pub found : after ≡ before ++ filter is_aside_name (named_by entries)
   pub asked : Does entries old new
 
-pub listing_begins : (old : Option (List DiskCall)) (before : List (List ℕ)) → Listing old old before before
-listing_begins old before = record { entries = []; names = refl; found = sym (append-nil before); asked = nothing old }
+pub listing_begins : (old : Option (List DiskCall)) (before : List (List ℕ)) → Listing 0 old old before before
+listing_begins old before = record { entries = []; counted = refl; names = refl; found = sym (append-nil before); asked = nothing old }
 
 named_one : (entry : DiskCall) (entries : List DiskCall) → named_by (entry ∷ entries) ≡ named_by entries ++ named_by (entry ∷ [])
 named_one (Named (Ok (Some name))) entries = refl
@@ -122,10 +146,11 @@ named_one (Renamed from to failure) entries = sym (append-nil (named_by entries)
 named_one (Removed path failure) entries = sym (append-nil (named_by entries))
 named_one (Listed path failure) entries = sym (append-nil (named_by entries))
 
-pub listing_goes_on : (old mid new : Option (List DiskCall)) (before after more : List (List ℕ)) → Listing old mid before after → ListsEntry mid new after more
-    → Listing old new before more
-listing_goes_on old mid new before after more h one = record {
+pub listing_goes_on : (count next : ℕ) (old mid new : Option (List DiskCall)) (before after more : List (List ℕ)) → next ≡ count + 1
+    → Listing count old mid before after → ListsEntry mid new after more → Listing next old new before more
+listing_goes_on count next old mid new before after more counts h one = record {
   entries = one.entry ∷ h.entries;
+  counted = let counted = h.counted in omega arith;
   names = rw one.is_one h.names;
   found =
       one.found ∙ ap (λ xs. xs ++ filter is_aside_name (named_by (one.entry ∷ []))) h.found
@@ -145,11 +170,34 @@ pub one_passed : (old new : Option (List DiskCall)) (before : List (List ℕ)) (
     → ListsEntry old new before before
 one_passed old new before kind is asked = record { entry = Named (Err kind); is_one = is; found = sym (append-nil before); asked = asked }
 
-pub all_listed : (old mid new : Option (List DiskCall)) (before after last : List (List ℕ)) → last ≡ after → Listing old mid before after
+pub all_listed : (count : ℕ) (old mid new : Option (List DiskCall)) (before after last : List (List ℕ)) → last ≡ after → Listing count old mid before after
     → Does (Named (Ok None) ∷ []) mid new → ListsOn old new before last
-all_listed old mid new before after last same h end = record {
+all_listed count old mid new before after last same h end = record {
   entries = h.entries;
   names = h.names;
   found = same ∙ h.found;
   asked = then (Named (Ok None)) h.entries old mid new h.asked end;
+}
+
+-- a listing that was cut off by one name
+pub name_lost : (count : ℕ) (answer : DeviceAnswer) (old mid new : Option (List DiskCall)) (before after : List (List ℕ)) → Listing count old mid before after
+    → FailsToName answer mid new → ListsSome answer old new
+name_lost count answer old mid new before after h (inl (failure, other, why, asked)) = record {
+  entries = h.entries;
+  names = h.names;
+  ends = inl (failure, why, then (Named (Err failure)) h.entries old mid new h.asked asked);
+}
+name_lost count answer old mid new before after h (inr (name, why, asked)) = record {
+  entries = Named (Ok (Some name)) ∷ h.entries;
+  names = h.names;
+  ends = inr (inl (why, then (Named (Ok (Some name))) h.entries old mid new h.asked asked));
+}
+
+-- or by their number
+pub too_many_names : (count : ℕ) (old new : Option (List DiskCall)) (before after : List (List ℕ)) → most_pieces ≤ count
+    → Listing count old new before after → ListsSome Answer.Failed old new
+too_many_names count old new before after many h = record {
+  entries = h.entries;
+  names = h.names;
+  ends = inr (inr (refl, rw h.counted many, h.asked));
 }

@@ -1,5 +1,5 @@
 -- The rows of a listing, one line after another.
-use Rattle.std.proofs.Common.{◌≡◌, ℕ, List, [], ◌∷◌, ◌++◌, length, refl, ap, ◌∙◌}
+use Rattle.std.proofs.Common.{arith, true, if◌then◌else◌, ◌≡◌, ◌+◌, ℕ, List, [], ◌∷◌, ◌++◌, length, refl, ap, ◌∙◌}
 use Rattle.world.specs.declared.rows.HostRow.{HostRow}
 use Rattle.world.specs.RowOrder.{with_row, put_in_order, in_row_order}
 use Rattle.script_model.specs.RowSpellings.{SpellsRow}
@@ -12,18 +12,19 @@ pub record Whole (text : List ℕ) (kept rows : List HostRow) : Type 0 where
   pub all : text ≡ lines_text lines
   pub spelled : SpellRows lines read
   pub in_order : put_in_order kept rows ≡ in_row_order read
+  pub once : length read ≡ length kept + length rows
 
 -- what the rest says, and what was kept before it, is what all says
 abbrev pub GoesOn : (text rest : List ℕ) → (kept : List HostRow) → Type 0
 GoesOn text rest kept = (lines : List (List ℕ)) (rows : List HostRow) → SpellRows lines rows → rest ≡ lines_text lines → Whole text kept rows
 
 pub listing_begins : (text : List ℕ) → GoesOn text text []
-listing_begins text = λ lines rows spelled all. record { lines = lines; read = rows; all = all; spelled = spelled; in_order = refl }
+listing_begins text = λ lines rows spelled all. record { lines = lines; read = rows; all = all; spelled = spelled; in_order = refl; once = omega arith }
 
 pub one_row : (text rest others line : List ℕ) (kept more : List HostRow) (row : HostRow) → rest ≡ line ++ 10 ∷ others → SpellsRow line row
-    → more ≡ with_row row kept
+    → more ≡ with_row row kept → length more ≡ length kept + (if true then 1 else 0)
     → GoesOn text rest kept → GoesOn text others more
-one_row text rest others line kept more row is spells put h = λ lines rows spelled all.
+one_row text rest others line kept more row is spells put new h = λ lines rows spelled all.
     let whole = h (line ∷ lines) (row ∷ rows) (spells, spelled) (is ∙ ap (λ xs. line ++ 10 ∷ xs) all) in
     record {
       lines = whole.lines;
@@ -31,6 +32,7 @@ one_row text rest others line kept more row is spells put h = λ lines rows spel
       all = whole.all;
       spelled = whole.spelled;
       in_order = ap (λ kept. put_in_order kept rows) put ∙ whole.in_order;
+      once = let once = whole.once in omega arith;
     }
 
 nothing_left : (rest : List ℕ) → length rest ≡ 0 → rest ≡ []
@@ -46,4 +48,5 @@ listing_ends text rest kept none h =
       all = whole.all;
       spelled = whole.spelled;
       in_order = whole.in_order;
+      once = let once = whole.once in omega arith;
     }

@@ -1,6 +1,7 @@
 -- What a device has the system do: the calls with their answers, the last one first.
 use Rattle.std.specs.Prelude.{◌≡◌, List, ◌++◌, Option, None, Some, Result, Ok, Err}
 use Rattle.std.specs.declared.io.ErrorKind.{ErrorKind}
+use Rattle.std.specs.declared.io.ErrorKind.TheVariants as kind
 use Rattle.world.specs.declared.faults.DeviceAnswer.{DeviceAnswer}
 use Rattle.world.specs.declared.faults.DeviceAnswer.TheVariants as Answer
 
@@ -13,6 +14,11 @@ Does made (Some calls) new = new ≡ Some (made ++ calls)
 abbrev pub failure_of : {T : Type 0} → Result T ErrorKind → Option ErrorKind
 failure_of (Ok x) = None
 failure_of (Err kind) = Some kind
+
+-- what a failure that changed nothing is to a device: memory is wanted, or it failed
+abbrev pub reason_of : ErrorKind → DeviceAnswer
+reason_of kind.OutOfMemory = Answer.NoMemory
+reason_of failure = Answer.Failed
 
 -- A device answers by what it asked of the system: that was done, or gave nothing for some reason. For want of memory
 -- nothing is asked.

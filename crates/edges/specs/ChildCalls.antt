@@ -4,10 +4,11 @@ use Rattle.std.specs.Prelude.{ℕ, Bool, true, false, ◌≡◌, ◌⊎◌, List
 use Rattle.std.specs.declared.io.ErrorKind.{ErrorKind}
 use Rattle.net_types.specs.declared.fault.Failed.{Failed}
 use Rattle.world.specs.declared.faults.DeviceAnswer.{DeviceAnswer}
+use Rattle.world.specs.declared.faults.DeviceAnswer.TheVariants as Answer
 use Rattle.world.specs.declared.hooking.Poll.{Poll}
 use Rattle.world.specs.declared.hooking.Poll.TheVariants.{Running, Ended}
 use Rattle.world.specs.HookCalls.{Variable}
-use Rattle.edges.specs.Asking.{Does}
+use Rattle.edges.specs.Asking.{Does, reason_of}
 
 -- each with why it gave nothing, where it did
 pub data ChildCall : Type 0 where
@@ -32,7 +33,9 @@ abbrev pub Starts : {T : Type 0} → (program : List ℕ) → List Variable → 
     → Result T DeviceAnswer → Type 0
 Starts program variables old new (Ok x) = Does (Started program false variables None ∷ []) old new
 Starts program variables old new (Err answer) =
-    (new ≡ old) ⊎ ((kind : ErrorKind) × Does (Started program false variables (Some kind) ∷ []) old new)
+    ((answer ≡ Answer.NoMemory) × (new ≡ old))
+    ⊎ ((failure : ErrorKind) × (answer ≡ reason_of failure)
+    × Does (Started program false variables (Some failure) ∷ []) old new)
 
 -- A child that can't be asked counts as one that runs.
 abbrev pub Polls : (old new : Option (List ChildCall)) → Result Poll Failed → Type 0

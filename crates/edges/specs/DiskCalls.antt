@@ -57,12 +57,8 @@ abbrev pub is_piece : DiskCall → Bool
 is_piece (Read (Ok bytes)) = true
 is_piece call = false
 
-abbrev pub is_read : DiskCall → Bool
-is_read (Read answer) = true
-is_read call = false
-
 abbrev pub is_write : DiskCall → Bool
-is_write (Wrote bytes answer) = true
+is_write (Wrote bytes (Ok n)) = true
 is_write call = false
 
 -- whether a failure says that a name is no text

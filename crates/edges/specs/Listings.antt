@@ -1,5 +1,5 @@
 -- Listings of the host's rows, as a script prints them.
-use Rattle.std.specs.Prelude.{ℕ, ◌≡◌, List, [], ◌∷◌, ◌++◌}
+use Rattle.std.specs.Prelude.{ℕ, ◌≡◌, List, [], ◌∷◌, ◌++◌, length}
 use Rattle.world.specs.declared.rows.HostRow.{HostRow}
 use Rattle.world.specs.RowOrder.{in_row_order}
 use Rattle.script_model.specs.RowSpellings.{SpellsRow}
@@ -16,10 +16,11 @@ SpellRows [] (row ∷ rows) = ⊥
 SpellRows (line ∷ lines) [] = ⊥
 SpellRows (line ∷ lines) (row ∷ rows) = SpellsRow line row × SpellRows lines rows
 
--- All of a text is lines, and each is a row; the rows are kept in row order.
+-- All of a text is lines, and each is a row, none of them twice; the rows are kept in row order.
 pub record IsListing (text : List ℕ) (kept : List HostRow) : Type 0 where
   pub lines : List (List ℕ)
   pub rows : List HostRow
   pub all : text ≡ lines_text lines
   pub spelled : SpellRows lines rows
   pub in_order : kept ≡ in_row_order rows
+  pub once : length kept ≡ length rows

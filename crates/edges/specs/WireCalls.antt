@@ -1,6 +1,6 @@
 -- The calls of the system on a socket of the loopback address and on the clocks, with their answers, and what the
 -- loopback link wants of them. `old` and `new` are the calls before and after, the last one first.
-use Rattle.std.specs.Prelude.{ℕ, Bool, true, false, ◌≡◌, ◌⊎◌, ◌/◌, List, [], ◌∷◌, take, Option, None, Some, Result, Ok, Err}
+use Rattle.std.specs.Prelude.{ℕ, Bool, true, false, ◌≡◌, ◌≤◌, ◌⊎◌, ◌/◌, List, [], ◌∷◌, take, Option, None, Some, Result, Ok, Err}
 use Rattle.std.specs.declared.io.ErrorKind.{ErrorKind}
 use Rattle.std.specs.Duration.{as_nanos}
 use Rattle.std.specs.declared.time.Duration.{Duration}
@@ -10,7 +10,12 @@ use Rattle.net_types.specs.declared.fault.Failed.{Failed}
 use Rattle.edges.specs.declared.loopback.Sender.{Sender}
 use Rattle.edges.specs.declared.loopback.Arrival.{Arrival}
 use Rattle.edges.specs.declared.loopback.TheConstants.{LOOPBACK}
+use Rattle.world.specs.declared.faults.DeviceAnswer.{DeviceAnswer}
+use Rattle.world.specs.declared.faults.DeviceAnswer.TheVariants as Answer
+use Rattle.world.specs.declared.wakes.Begin.{Begin}
 use Rattle.edges.specs.Asking.{Does}
+use Rattle.edges.specs.Datagrams.{frame_datagram}
+use Rattle.edges.specs.Salts.{salt_step}
 use Rattle.edges.specs.Moments.{next_moment}
 use Rattle.edges.specs.Waiting.{is_over}
 
@@ -58,14 +63,16 @@ pub record Hears (millis peer : ℕ) (bytes : List ℕ) (old new : Option (List 
   pub port : sender.port ≡ peer
   pub asked : Does (Received (Ok (record { bytes = bytes; sender = sender })) ∷ Limited millis None ∷ []) old new
 
--- Of what others send nothing is taken. A failure that says that nothing came is none.
+-- Of what others send nothing is taken. A failure that says that nothing came is none, and any other one is.
 abbrev pub Receives : (millis peer : ℕ) → (buffer : List ℕ) → (old new : Option (List WireCall))
     → Result (Option ℕ) Failed → Type 0
 Receives millis peer buffer old new (Ok (Some len)) = Hears millis peer (take len buffer) old new
 Receives millis peer buffer old new (Ok None) =
     ((datagram : Datagram) × Does (Received (Ok datagram) ∷ Limited millis None ∷ []) old new)
     ⊎ ((kind : ErrorKind) × (is_over kind ≡ true) × Does (Received (Err kind) ∷ Limited millis None ∷ []) old new)
-Receives millis peer buffer old new (Err e) = Unit {0}
+Receives millis peer buffer old new (Err e) =
+    ((kind : ErrorKind) × Does (Limited millis (Some kind) ∷ []) old new)
+    ⊎ ((kind : ErrorKind) × (is_over kind ≡ false) × Does (Received (Err kind) ∷ Limited millis None ∷ []) old new)
 
 -- a moment of the wall clock, in whole milliseconds since 1970
 pub record ReadsWall (moment : ℕ) (old new : Option (List WireCall)) : Type 0 where
@@ -84,3 +91,20 @@ pub record TellsMoment (moment last begun since : ℕ) (old new : Option (List W
   pub nanos : ℕ
   pub told : moment ≡ next_moment last begun since nanos
   pub asked : Does (SteadyRead (Ok nanos) ∷ []) old new
+
+-- a life begins: the socket is bound, the clocks are read, and the first random word is that of the moment
+pub record BeginsLife (bound : Bool) (port : ℕ) (begin : Begin) (old new : Option (List WireCall)) : Type 0 where
+  pub between : Option (List WireCall)
+  pub binds : Binds {T = Unit {0}} bound port old between (Ok tt)
+  pub since : ℕ
+  pub clocks : BeginsWith begin.at since between new
+  pub salt : begin.salt ≡ (salt_step begin.at).0
+
+-- A frame is a datagram for the peer. Memory may be wanted before it is sent.
+abbrev pub Sends : {T : Type 0} → (iface : ℕ) → (frame : List ℕ) → (peer : ℕ) → (old new : Option (List WireCall))
+    → Result T DeviceAnswer → Type 0
+Sends iface frame peer old new (Ok x) = Does (Sent (frame_datagram iface frame) peer None ∷ []) old new
+Sends iface frame peer old new (Err Answer.NoMemory) = new ≡ old
+Sends iface frame peer old new (Err Answer.Failed) =
+    ((256 ≤ iface) × (new ≡ old))
+    ⊎ ((kind : ErrorKind) × Does (Sent (frame_datagram iface frame) peer (Some kind) ∷ []) old new)

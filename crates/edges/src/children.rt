@@ -73,6 +73,7 @@ impl<C: Children + Drop> Hooks for ChildHooks<C> {
         ensures asked { Starts (script_run (string_bytes self.old.script) (string_bytes job.now.script))
             (map variable_of job.now.vars.items) (C.calls self.old.children) (C.calls self.new.children) result }
     {
+        self.faults.room()?;
         let script = script_of(&self.script, &job.script);
         match self.children.start(script, false, &job.vars) {
             Ok(()) => {

@@ -1,6 +1,6 @@
 ghost use Rattle.std.specs.Prelude.{◌≡◌, ◌<◌, ◌-◌, ◌^◌, IfOk, IfErr, IsErr, OnOk};
 ghost use Rattle.world.specs.Causes.{HasCause, HasDeviceCause};
-ghost use Rattle.edges.specs.Asking.{failure_of};
+ghost use Rattle.edges.specs.Asking.{failure_of, reason_of};
 ghost use Rattle.edges.specs.Counts.{Counted, AnswersAs};
 
 use std::io::ErrorKind;
@@ -76,7 +76,9 @@ impl Faults {
 }
 
 /// Why a call of the system that changes nothing gave nothing.
-pub(crate) fn reason(kind: ErrorKind) -> DeviceAnswer {
+pub(crate) fn reason(kind: ErrorKind) -> DeviceAnswer
+    ensures { result ≡ reason_of kind }
+{
     match kind {
         ErrorKind::OutOfMemory => DeviceAnswer::NoMemory,
         _ => DeviceAnswer::Failed,

@@ -7,7 +7,7 @@ ghost use Rattle.world.specs.FileNames.{aside_of, is_file_byte, IsFileName};
 ghost use Rattle.world.specs.StoreCalls.{AppendsNames};
 ghost use Rattle.edges.specs.Asking.{failure_of, Answered};
 ghost use Rattle.edges.specs.DiskCalls.{is_no_text};
-ghost use Rattle.edges.specs.FolderCalls.{Syncs, Writes, WritesOn, Removes, Renames, ReadsOn, ReadsOpened, IsUnopened, ReadsPath, ListsOne, ListsOn, ListsAll, is_aside_name, is_missing, Appends};
+ghost use Rattle.edges.specs.FolderCalls.{Syncs, Writes, WritesOn, Removes, Renames, ReadsOn, ReadsOpened, IsUnopened, ReadsPath, ListsOne, ListsOn, ListsSome, Finds, is_aside_name, is_missing, Appends};
 ghost use Rattle.edges.specs.Paths.{file_path};
 
 use crate::disks::Disk;
@@ -130,12 +130,14 @@ fn remove<D: Disk>(disk: &mut D, path: &str) -> Result<(), ErrorKind>
 }
 
 /// Appends what the open file holds; a front of it where that fails.
-#[tactic(auto, using(crate::proofs::FolderSteps::reading_begins, crate::proofs::FolderSteps::reading_goes_on, crate::proofs::FolderSteps::all_read, crate::proofs::FolderSteps::front_kept, crate::proofs::FolderSteps::some_read, crate::proofs::FolderSteps::read_so_far))]
+#[tactic(auto, using(crate::proofs::FolderSteps::reading_begins, crate::proofs::FolderSteps::reading_goes_on, crate::proofs::FolderSteps::all_read, crate::proofs::FolderSteps::front_kept, crate::proofs::FolderSteps::piece_failed, crate::proofs::FolderSteps::piece_lost, crate::proofs::FolderSteps::too_many_pieces))]
 fn read_on<D: Disk>(disk: &mut D, into: &mut Vec<u8>) -> Result<(), DeviceAnswer>
     ensures { ReadsOn (D.calls disk.old) (D.calls disk.new) into.old.items into.new.items result }
 {
     let mut piece = [0; PIECE];
-    'pieces: for _ in 0..u64::MAX {
+    let mut count = 0;
+    'pieces: while count < u64::MAX {
+        count += 1;
         match disk.read(&mut piece) {
             Ok(n) => {
                 if n == 0 {
@@ -169,7 +171,7 @@ fn read_opened<D: Disk>(disk: &mut D, into: &mut Vec<u8>) -> Result<bool, Device
 
 /// What the reading of a file that can't be opened gives.
 fn unopened(kind: ErrorKind) -> Result<bool, DeviceAnswer>
-    ensures { IsUnopened (is_missing kind) result }
+    ensures { IsUnopened kind result }
 {
     if is_missing(kind) {
         Ok(false)
@@ -213,17 +215,22 @@ fn list_one<D: Disk>(disk: &mut D, names: &mut Vec<String>) -> Result<bool, Devi
 }
 
 /// Keeps the names of asides among those that the folder goes on to list.
-#[tactic(auto, using(crate::proofs::FolderSteps::listing_begins, crate::proofs::FolderSteps::listing_goes_on, crate::proofs::FolderSteps::all_listed))]
+#[tactic(auto, using(crate::proofs::FolderSteps::listing_begins, crate::proofs::FolderSteps::listing_goes_on, crate::proofs::FolderSteps::all_listed, crate::proofs::FolderSteps::name_lost, crate::proofs::FolderSteps::too_many_names))]
 fn list_on<D: Disk>(disk: &mut D, names: &mut Vec<String>) -> Result<(), DeviceAnswer>
     requires { All (λ name. IsFileName (string_bytes name)) names.old.items }
     ensures named { All (λ name. IsFileName (string_bytes name)) names.new.items }
     ensures listed { OnOk result
         (ListsOn (D.calls disk.old) (D.calls disk.new) (map string_bytes names.old.items)
         (map string_bytes names.new.items)) }
+    ensures cut { IfErr result (λ answer. ListsSome answer (D.calls disk.old) (D.calls disk.new)) }
 {
-    'entries: for _ in 0..u64::MAX {
-        if !list_one(disk, names)? {
-            return Ok(());
+    let mut count = 0;
+    'entries: while count < u64::MAX {
+        count += 1;
+        match list_one(disk, names) {
+            Ok(true) => (),
+            Ok(false) => return Ok(()),
+            Err(answer) => return Err(answer),
         }
     }
     Err(DeviceAnswer::Failed)
@@ -236,6 +243,7 @@ fn keep_aside(names: &mut Vec<String>, name: String) -> Result<(), DeviceAnswer>
     ensures kept { OnOk result
         (map string_bytes names.new.items
         ≡ map string_bytes names.old.items ++ filter is_aside_name (string_bytes name ∷ [])) }
+    ensures memory { IfErr result (λ answer. (answer ≡ DeviceAnswer.NoMemory) × (names.new.items ≡ names.old.items)) }
 {
     if !is_aside_name(name.as_bytes()) {
         return Ok(());
@@ -253,8 +261,8 @@ fn found_asides<D: Disk>(
     dir: &str,
 ) -> Result<Vec<String>, DeviceAnswer>
     ensures named { IfOk result (λ names. All (λ name. IsFileName (string_bytes name)) names.items) }
-    ensures listed { IfOk result
-        (λ names. ListsAll dir.now (D.calls disk.old) (D.calls disk.new) (map string_bytes names.items)) }
+    ensures listed { Finds (λ names. map string_bytes names.items) dir.now (D.calls disk.old) (D.calls disk.new)
+        result }
 {
     let mut names = Vec::new(alloc);
     match disk.list(dir) {
@@ -272,10 +280,12 @@ fn append_asides<D: Disk>(
     names: &mut Vec<String>,
 ) -> Result<(), DeviceAnswer>
     ensures names { AppendsNames names.old.items names.new.items result }
-    ensures listed { OnOk result
-        (Appends dir.now (D.calls disk.old) (D.calls disk.new) names.old.items names.new.items) }
+    ensures listed { Appends dir.now (D.calls disk.old) (D.calls disk.new) names.old.items names.new.items result }
 {
-    let mut found = found_asides(disk, alloc, dir)?;
+    let mut found = match found_asides(disk, alloc, dir) {
+        Ok(found) => found,
+        Err(answer) => return Err(answer),
+    };
     let Ok(()) = found.sort() else {
         return Err(DeviceAnswer::NoMemory);
     };
@@ -349,10 +359,10 @@ impl<D: Disk + Drop> Store for FolderStore<D> {
         ensures cause { HasDeviceCause self.old.faults.count self.new.faults.count result }
         ensures names { AppendsNames names.old.items names.new.items result }
         ensures folder { self.new.dir ≡ self.old.dir }
-        ensures asked { OnOk result
-            (Appends (string_bytes self.old.dir) (D.calls self.old.disk)
-            (D.calls self.new.disk) names.old.items names.new.items) }
+        ensures asked { Appends (string_bytes self.old.dir) (D.calls self.old.disk) (D.calls self.new.disk)
+            names.old.items names.new.items result }
     {
+        self.faults.room()?;
         match append_asides(&mut self.disk, self.alloc, &self.dir, names) {
             Ok(()) => Ok(()),
             Err(answer) => Err(self.faults.counted(answer)),
@@ -367,6 +377,7 @@ impl<D: Disk + Drop> Store for FolderStore<D> {
             (D.calls self.new.disk) into.old.items into.new.items result }
     {
         let path = self.path(name)?;
+        self.faults.room()?;
         match append_file(&mut self.disk, &path, into) {
             Ok(found) => Ok(found),
             Err(answer) => Err(self.faults.counted(answer)),

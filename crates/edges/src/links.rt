@@ -1,13 +1,11 @@
-ghost use Rattle.std.specs.Prelude.{◌≡◌, ◌<◌, ◌≤◌, ◌-◌, ◌^◌, true, [], ◌∷◌, length, None, IfOk, IfSome, OnOk};
+ghost use Rattle.std.specs.Prelude.{◌≡◌, ◌<◌, ◌≤◌, ◌-◌, ◌^◌, true, false, length, None, IfOk, IfSome, OnErr};
 ghost use Rattle.edges.specs.Ports.{port_named};
 ghost use Rattle.edges.specs.Waiting.{wait_end, piece_of, glancing, is_over};
-ghost use Rattle.world.specs.Causes.{HasCause};
-ghost use Rattle.edges.specs.Asking.{Does};
-ghost use Rattle.edges.specs.Datagrams.{frame_datagram};
-ghost use Rattle.edges.specs.Salts.{salt_step};
-ghost use Rattle.edges.specs.WireCalls.{Sent, Binds, Receives};
+ghost use Rattle.world.specs.Causes.{HasCause, HasDeviceCause};
+ghost use Rattle.edges.specs.WireCalls.{BeginsLife, Binds, Receives, Sends};
 ghost use Rattle.edges.specs.declared.loopback.TheConstants.{LOOPBACK};
 ghost use Rattle.world.specs.LinkCalls.{frame_len};
+ghost use Rattle.world.specs.Streams.{count_after};
 
 use crate::datagrams::{FRAME_LIMIT, HEAD, frame_datagram, taken};
 use crate::faults::Faults;
@@ -116,7 +114,8 @@ fn from_peer(arrival: Arrival, peer: u16) -> Option<usize>
 
 /// What a receiving that failed gives: nothing where none came.
 fn nothing_came(kind: ErrorKind) -> Result<Option<usize>, Failed>
-    ensures { IfOk result (λ got. (got ≡ None) × (is_over kind ≡ true)) }
+    ensures none { IfOk result (λ got. (got ≡ None) × (is_over kind ≡ true)) }
+    ensures failed { OnErr result (is_over kind ≡ false) }
 {
     if is_over(kind) { Ok(None) } else { Err(Failed) }
 }
@@ -142,7 +141,8 @@ impl<L: Loopback + Drop, W: Watch + Drop> Wire<L, W> {
 
     /// All interfaces have carrier at first.
     fn begin(&mut self) -> Result<Begin, Failed>
-        ensures salt { IfOk result (λ begin. begin.salt ≡ (salt_step begin.at).0) }
+        ensures asked { IfOk result
+            (λ begin. BeginsLife self.old.bound self.old.port begin (L.calls self.old.line) (L.calls self.new.line)) }
     {
         self.bind()?;
         let moments = Moments::begin(&mut self.line)?;
@@ -237,9 +237,8 @@ impl<L: Loopback + Drop, W: Watch + Drop> Wire<L, W> {
 
     /// Sends the datagram of a frame to the peer.
     fn send(&mut self, iface: IfIndex, frame: &[u8]) -> Result<(), DeviceAnswer>
-        ensures asked { OnOk result
-            (Does (Sent (frame_datagram iface.number frame.now) self.old.peer None ∷ []) (L.calls self.old.line)
-            (L.calls self.new.line)) }
+        ensures asked { Sends iface.number frame.now self.old.peer (L.calls self.old.line) (L.calls self.new.line)
+            result }
     {
         let Ok(iface) = u8::try_from(iface.number) else {
             return Err(DeviceAnswer::Failed);
@@ -323,7 +322,15 @@ impl<L: Loopback + Drop, W: Watch + Drop> Link for LoopLink<L, W> {
 
     ghost failing_sends = { λ link. None };
 
-    fn begin(&mut self) -> Result<Begin, Failed> {
+    fn begin(&mut self) -> Result<Begin, Failed>
+        ensures cause { HasCause self.old.faults.count self.new.faults.count result }
+        ensures no_send { self.new.send_faults ≡ self.old.send_faults }
+        ensures counted { self.new.begins ≡ count_after self.old.begins }
+        ensures asked { self.old.faults.count < 2 ^ 64 - 1
+            → IfOk result
+            (λ begin. BeginsLife self.old.wire.bound self.old.wire.port begin (L.calls self.old.wire.line)
+            (L.calls self.new.wire.line)) }
+    {
         self.begins = self.begins.saturating_add(1);
         match self.wire.begin() {
             Ok(begin) => Ok(begin),
@@ -342,7 +349,13 @@ impl<L: Loopback + Drop, W: Watch + Drop> Link for LoopLink<L, W> {
         }
     }
 
-    fn send(&mut self, iface: IfIndex, frame: &[u8]) -> Result<(), DeviceAnswer> {
+    fn send(&mut self, iface: IfIndex, frame: &[u8]) -> Result<(), DeviceAnswer>
+        ensures cause { HasDeviceCause self.old.send_faults.count self.new.send_faults.count result }
+        ensures no_wait { (self.new.faults ≡ self.old.faults) × (self.new.begins ≡ self.old.begins) }
+        ensures asked { Sends iface.number frame.now self.old.wire.peer (L.calls self.old.wire.line)
+            (L.calls self.new.wire.line) result }
+    {
+        self.send_faults.room()?;
         match self.wire.send(iface, frame) {
             Ok(()) => Ok(()),
             Err(answer) => Err(self.send_faults.counted(answer)),

@@ -1,16 +1,14 @@
 -- The frame of a client's message is read as that message, whatever the client says of itself.
-use Rattle.std.proofs.Common.{◌≡◌, ℕ, ◌<◌, ◌^◌, Bool, true, false, List, [], ◌∷◌, ◌++◌, length, drop, Option, Some, None, refl, sym, ap, subst, ◌∙◌, arith}
-use Rattle.std.specs.Prelude.{option_and_then, option_map, bytes_eq, if◌then◌else◌, flat_map, nat_lt, ◌&&◌}
+use Rattle.std.proofs.Common.{◌≡◌, ℕ, ◌<◌, true, List, [], ◌∷◌, ◌++◌, length, Option, Some, None, refl, sym, ap, ◌∙◌, arith}
+use Rattle.std.specs.Prelude.{option_and_then, flat_map, nat_lt}
 use Rattle.std.proofs.lemmas.Bool.Decides.{nat_tests}
 use Rattle.std.proofs.lemmas.List.{append-nil}
 use Rattle.net_types.specs.declared.address.Ip4.{Ip4}
-use Rattle.frame_link.proofs.Cells.{six, six_cells}
-use Rattle.udp_frame.specs.declared.udp4.Ends4.{Ends4}
-use Rattle.udp_frame.specs.Udp4Frames.{udp4_text, udp4_frame_text}
+use Rattle.udp_frame.specs.Udp4Frames.{udp4_frame_text}
 use Rattle.v4_options.specs.OptionArea.{Instance}
 use Rattle.v4_options.specs.OptionValue.{pieces, bytes_at}
 use Rattle.v4_message.specs.Message.{message_instances}
-use Rattle.v4_message.specs.Requests.{AskContent, AskFits, address_option, text_option, asked_for, asked_for_in, number_of_kind, said_options, options_text, fixed_fields, message_text, padded}
+use Rattle.v4_message.specs.Requests.{AskContent, AskFits, address_option, text_option, asked_for_in, number_of_kind, said_options, options_text, fixed_fields, padded}
 use Rattle.v4_message.specs.declared.writing.Kind4.{Kind4}
 use Rattle.v4_message.specs.declared.writing.Kind4.TheVariants.{Discover, Request, Decline, Release}
 use Rattle.v4_message.specs.declared.writing.Said4.{Said4}
@@ -19,28 +17,10 @@ use Rattle.v4_frames.specs.declared.sent.Sent4.{Sent4}
 use Rattle.v4_frames.specs.declared.sent.TheConstants.{CLIENT_PORT, SERVER_PORT}
 use Rattle.v4_frames.specs.InRange.{FitsSent}
 use Rattle.v4_frames.specs.Spelled.{frame_of, seen_in, if_spelled, sent_in}
-use Rattle.v4_frames.proofs.FramesBack.{between, reads_back}
+use Rattle.v4_frames.proofs.FramesBack.{reads_back}
+use Rattle.client_frames.proofs.FrameData.{data_of}
 use Rattle.lab_peer.specs.ClientFrames.{ask_among, ask_in, ask_fits, if_of_a_client, is_of_a_client, if_said, client_sent}
 use Rattle.lab_peer.specs.Laws.{EachClientIsRead}
-
--- ---- the data of a frame
-
-module _ (from to : Ip4) (payload : List ℕ) where
-  abbrev HasData : (from_mac to_mac : List ℕ) → Type 0
-  HasData from_mac to_mac = drop 42 (udp4_frame_text (between from_mac to_mac from to) CLIENT_PORT SERVER_PORT payload) ≡ payload
-
-  data_cells : (f t : List ℕ) → HasData (six f) (six t)
-  unfolding udp4_frame_text udp4_text
-  data_cells f t = refl
-
-  pub has_data : (f t : List ℕ) → length f ≡ 6 → length t ≡ 6 → HasData f t
-  has_data f t f_len t_len =
-      subst (λ (m : List ℕ). HasData m t) (sym (six_cells f f_len)) (subst (λ (m : List ℕ). HasData (six f) m) (sym (six_cells t t_len)) (data_cells f t))
-
-pub data_of : (ask : AskContent) (sent : Sent4) → length sent.ends.from_mac.bytes ≡ 6 → length sent.ends.to_mac.bytes ≡ 6
-    → drop 42 (frame_of ask sent) ≡ padded (message_text sent.said ask)
-data_of ask sent from_len to_len =
-    has_data sent.ends.from sent.ends.to (padded (message_text sent.said ask)) sent.ends.from_mac.bytes sent.ends.to_mac.bytes from_len to_len
 
 -- ---- what a message tells of what the client says of itself
 

@@ -20,23 +20,23 @@ use Rattle.lease6_judge.specs.Laws.{AddressesAreJudged, IsJudged, ItemsAreTold}
 use Rattle.lease6_judge.proofs.Numbering.{has_first_reply, is_first_reply, up_is}
 use Rattle.lease6_judge.proofs.TermsTold.{GivenIn, alone, does_alone, does_go, does_revise, given_in, goes, in_given, revised, said_among}
 
-left_parts : (left : Bool) (term : Term) (now : ℕ) → is_held now (if_left left term) ≡ true → (left ≡ true) × (is_held now term ≡ true)
+pub left_parts : (left : Bool) (term : Term) (now : ℕ) → is_held now (if_left left term) ≡ true → (left ≡ true) × (is_held now term ≡ true)
 left_parts true term now h = (refl, h)
 left_parts false term now h = absurd cc
 
-both_left : (left : Bool) (term : Term) (now : ℕ) → left ≡ true → is_held now term ≡ true → is_held now (if_left left term) ≡ true
+pub both_left : (left : Bool) (term : Term) (now : ℕ) → left ≡ true → is_held now term ≡ true → is_held now (if_left left term) ≡ true
 both_left true term now l h = h
 both_left false term now l h = absurd cc
 
-opposite : (b : Bool) → b ≡ true → b ≡ false → ⊥
+pub opposite : (b : Bool) → b ≡ true → b ≡ false → ⊥
 opposite true t f = cc
 opposite false t f = cc
 
-none_not : (o : Option Replied) (r : Replied) → o ≡ None → o ≡ Some r → ⊥
+pub none_not : (o : Option Replied) (r : Replied) → o ≡ None → o ≡ Some r → ⊥
 none_not None r n s = cc
 none_not (Some x) r n s = cc
 
-one_reply : (o : Option Replied) (a b : Replied) → o ≡ Some a → o ≡ Some b → a ≡ b
+pub one_reply : (o : Option Replied) (a b : Replied) → o ≡ Some a → o ≡ Some b → a ≡ b
 one_reply None a b s t = absurd (none_not None a refl s)
 one_reply (Some x) a b s t = cc
 
@@ -49,7 +49,7 @@ module _ (site : Site) (ask : IaAsk) (net : Net6) (now : ℕ) (e : Entry) (past 
 
   -- ---- a turn that leaves what is held
 
-  is_left_on : is_left site ask net e (watch_in site past).up ≡ true
+  pub is_left_on : is_left site ask net e (watch_in site past).up ≡ true
       → StaysOn site e past × NotContested (index_at site) ask.kind net.ip e.event
   is_left_on h =
       let parts =
@@ -59,7 +59,7 @@ module _ (site : Site) (ask : IaAsk) (net : Net6) (now : ℕ) (e : Entry) (past 
         alone (index_at site) ask.kind net.ip e.event parts.1,
       )
 
-  left_is : StaysOn site e past → NotContested (index_at site) ask.kind net.ip e.event
+  pub left_is : StaysOn site e past → NotContested (index_at site) ask.kind net.ip e.event
       → is_left site ask net e (watch_in site past).up ≡ true
   left_is goes_on own =
       and_from (stays (watch_in site past).up (index_at site) e.event) (is_alone (index_at site) ask.kind net.ip e.event)

@@ -1,3 +1,5 @@
 pub mod Numbering
 pub mod TermsTold
 pub mod Judging
+pub mod ItemsRead
+pub mod HeardTold

@@ -20,7 +20,7 @@ pub up_is : (site : Site) (past : List Entry) → (watch_in site past).up ≡ ha
 up_is site [] = refl
 up_is site (e ∷ past) = ap (carrier_after (index_at site) e.event) (up_is site past)
 
-seen_is : (site : Site) (past : List Entry) → (watch_in site past).seen ≡ seen6_in site past
+pub seen_is : (site : Site) (past : List Entry) → (watch_in site past).seen ≡ seen6_in site past
 seen_is site [] = refl
 seen_is site (e ∷ past) = ap (show6 (messages6_at site e)) (seen_is site past)
 
@@ -66,7 +66,7 @@ turn_grown site e past =
     all_grown (seen6_in site past).count (messages6_at site e) (seen6_in site past)
     (record { grown = itself (seen6_in site past).count; latest = (seen_grown site past).latest })
 
-number_is : (site : Site) (e : Entry) (past : List Entry) (x : Numbered6) → (seen6_in site (e ∷ past)).current ≡ Some x
+pub number_is : (site : Site) (e : Entry) (past : List Entry) (x : Numbered6) → (seen6_in site (e ∷ past)).current ≡ Some x
     → (x.number ≡ (seen6_in site (e ∷ past)).count) × (0 < x.number)
 number_is site e past x is =
     subst (λ (o : Option Numbered6). IfSome o (λ y. (y.number ≡ (seen6_in site (e ∷ past)).count) × (0 < y.number))) is
@@ -77,13 +77,13 @@ number_is site e past x is =
 unlike : (a b : ℕ) → a < b → not (a == b) ≡ true
 unlike a b less = grind (arith, nat_tests)
 
-unlike_by : (a b : ℕ) → (a ≡ b → ⊥) → not (a == b) ≡ true
+pub unlike_by : (a b : ℕ) → (a ≡ b → ⊥) → not (a == b) ≡ true
 unlike_by a b h = grind (arith, nat_tests)
 
 alike_not : (a b : ℕ) → not (a == b) ≡ true → a ≡ b → ⊥
 alike_not a b h e = grind (arith, nat_tests)
 
-above_it : (a b : ℕ) → not (a == b) ≡ true → a ≤ b → a < b
+pub above_it : (a b : ℕ) → not (a == b) ≡ true → a ≤ b → a < b
 above_it a b h le = grind (arith, nat_tests)
 
 module _ (site : Site) (e : Entry) (past : List Entry) where
@@ -130,7 +130,7 @@ module _ (site : Site) (e : Entry) (past : List Entry) where
       taken_in (seen6_in site (e ∷ past)).current (message6_at site e) r refl refl
       (sym (shown_is (seen6_in site (e ∷ past)).current (message6_at site e) refl refl) ∙ h)
 
-  takes : (x : Numbered6) (m : Content6) → GoodReply site x m e past → not (known == x.number) ≡ true
+  pub takes : (x : Numbered6) (m : Content6) → GoodReply site x m e past → not (known == x.number) ≡ true
       → first_reply site e (watch_in site past) ≡ Some (record { opened = x; message = m })
   takes x m good new =
       shown_is (Some x) (Some m) good.is_open good.came
@@ -140,7 +140,7 @@ module _ (site : Site) (e : Entry) (past : List Entry) where
 
 -- ---- the number of the last exchange with a good Reply
 
-record Known (site : Site) (answered : ℕ) (past : List Entry) : Type 0 where
+pub record Known (site : Site) (answered : ℕ) (past : List Entry) : Type 0 where
   pub within : answered ≤ (seen6_in site past).count
   pub above : (n : ℕ) → answered < n → Always (NoReply site n) past
   pub had : 0 < answered → Always (NoReply site answered) past → ⊥
@@ -181,7 +181,7 @@ module _ (site : Site) (e : Entry) (past : List Entry) (before : Known site (wat
         had = λ some none. none.0 r.opened r.message good refl;
       }
 
-numbers : (site : Site) (past : List Entry) → Known site (watch_in site past).answered past
+pub numbers : (site : Site) (past : List Entry) → Known site (watch_in site past).answered past
 numbers site [] = record { within = itself 0; above = λ n less. tt; had = λ some none. omega (arith, some) }
 numbers site (e ∷ past) = known_after site e past (numbers site past) (first_reply site e (watch_in site past)) refl
 
@@ -191,7 +191,7 @@ module _ (site : Site) (e : Entry) (past : List Entry) (x : Numbered6) (m : Cont
   abbrev answered : ℕ
   answered = (watch_in site past).answered
 
-  at_most : (seen6_in site (e ∷ past)).current ≡ Some x → answered ≤ x.number
+  pub at_most : (seen6_in site (e ∷ past)).current ≡ Some x → answered ≤ x.number
   at_most is =
       let number = (number_is site e past x is).0 in
       let w = (numbers site past).within in
@@ -206,7 +206,7 @@ module _ (site : Site) (e : Entry) (past : List Entry) (x : Numbered6) (m : Cont
         first = (numbers site past).above x.number (above_it answered x.number t.new (at_most t.good.is_open));
       }
 
-  was_had : FirstReply site x m e past → answered ≡ x.number → ⊥
+  pub was_had : FirstReply site x m e past → answered ≡ x.number → ⊥
   was_had first is =
       (numbers site past).had (subst (λ (n : ℕ). 0 < n) (sym is) (number_is site e past x first.good.is_open).1)
       (subst (λ (n : ℕ). Always (NoReply site n) past) (sym is) first.first)

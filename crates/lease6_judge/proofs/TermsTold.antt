@@ -73,7 +73,7 @@ or_false : (b : Bool) → b ≡ (b || false)
 or_false true = refl
 or_false false = refl
 
-held_longer : (now : ℕ) (one other : Term) → is_held now (longer one other) ≡ (is_held now one || is_held now other)
+pub held_longer : (now : ℕ) (one other : Term) → is_held now (longer one other) ≡ (is_held now one || is_held now other)
 held_longer now not_held other = refl
 held_longer now held_forever other = refl
 held_longer now (held_until end) not_held = or_false (nat_lt now end)

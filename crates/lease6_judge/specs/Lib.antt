@@ -1,3 +1,6 @@
 pub mod Watching
 pub mod Terms
 pub mod Laws
+pub mod HeardBasis
+pub mod HeardTerms
+pub mod HeardLaws

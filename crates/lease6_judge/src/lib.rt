@@ -3,4 +3,7 @@
 
 mod laws;
 
-pub use laws::{addresses_are_judged, first_replies_are_told, items_are_told};
+pub use laws::{
+    addresses_are_judged, first_replies_are_told, heard_items_are_told, items_are_told,
+    what_is_held_was_heard,
+};

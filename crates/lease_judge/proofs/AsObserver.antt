@@ -80,3 +80,7 @@ judge_same site (e ∷ past) =
 -- the judge's grant is the observer's
 pub granted_same : (site : Site) (past : List Entry) → (judge_in site past).granted ≡ as_granted (kept_in site past).grant
 granted_same site past = ap (λ (judge : Judge). judge.granted) (judge_same site past)
+
+-- and its carrier is the interface's
+pub carrier_same : (site : Site) (past : List Entry) → (judge_in site past).up ≡ has_carrier site past
+carrier_same site past = ap (λ (judge : Judge). judge.up) (judge_same site past)

@@ -1,3 +1,7 @@
 pub mod AsObserver
 pub mod GrantsTold
 pub mod Judging
+pub mod ProbedTold
+pub mod LeasesTold
+mod ShownMessages
+mod TurnsTold

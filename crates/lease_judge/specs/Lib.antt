@@ -1,2 +1,6 @@
 pub mod Judge
+pub mod ProbedTurns
+pub mod Leased
 pub mod Laws
+pub mod Watched
+pub mod Turns

@@ -1,6 +1,9 @@
-//! What tells, a turn at a time, that a leased address was granted: definitions and their proof, no code.
+//! A judge of leased addresses: it tells, a turn at a time, whether an address was granted.
 #![tactic(auto)]
 
 mod laws;
+mod turns;
+mod watch;
 
-pub use laws::{bases_are_judged, grants_are_judged};
+pub use laws::{bases_are_judged, grants_are_judged, leases_are_judged, probes_are_judged};
+pub use turns::LeaseJudge;

@@ -1,21 +1,18 @@
 -- A text of lines that is read is the body of a transcript, and one that isn't read is none.
-use Rattle.std.proofs.Common.{◌≡◌, ℕ, ◌+◌, true, cond, List, [], ◌∷◌, ◌++◌, map, length, Option, Some, None, option_map, option_and_then, refl, sym, ap, ◌∙◌, subst, arith, append_assoc}
+use Rattle.std.proofs.Common.{◌≡◌, ℕ, ◌+◌, true, cond, List, [], ◌∷◌, ◌++◌, map, length, Some, None, option_map, option_and_then, refl, sym, ap, ◌∙◌, subst, arith, append_assoc}
 use Rattle.std.specs.List.{AllByRecursion, list_all}
 use Rattle.std.proofs.lemmas.Bool.{and_parts, leb-true}
 use Rattle.std.proofs.lemmas.List.{append-nil, length-append}
 use Rattle.std.proofs.lemmas.Option.{none-some}
 use Rattle.net_types.specs.declared.fault.BadText.{BadText}
 use Rattle.net_types.specs.declared.interface.IfSpec.{IfSpec}
-use Rattle.net_types.specs.Cutting.{split_at_byte}
-use Rattle.net_types.specs.FirstBadLine.{Breaks}
 use Rattle.net_types.specs.LineReading.{Gives, StopsAt, Stopped, run}
 use Rattle.net_types.specs.Marks.{IsPrintable, Lacks, is_printable}
 use Rattle.net_types.specs.TextLines as Texts
-use Rattle.net_types.specs.TextLines.{AreLines, Front, Whole, ended, front_by, front_in, lines_text}
+use Rattle.net_types.specs.TextLines.{AreLines, Whole, front_in, lines_text}
 use Rattle.net_types.proofs.AllLaws.{all_map}
-use Rattle.net_types.proofs.FirstBadLaws.{goes_on}
 use Rattle.net_types.proofs.LineSteps.{run_more}
-use Rattle.net_types.proofs.ReadsLaws.{mapped, passed, some_same, split_sound, split_whole}
+use Rattle.net_types.proofs.ReadsLaws.{mapped, passed, some_same}
 use Rattle.net_types.proofs.ReadsLaws as Steps
 use Rattle.script_model.specs.Lines.{Line}
 use Rattle.script_model.specs.Lines as Model
@@ -34,7 +31,9 @@ use Rattle.transcript_model.specs.Told.{BodyTold, LifeTold, body_lines}
 use Rattle.transcript_model.specs.Transcripts.{SpellsBody}
 use Rattle.transcript_read.specs.declared.place.Place.TheVariants as places
 use Rattle.transcript_read.specs.Bodies.{IsBadAt, IsFollowed, Reading, first_reading, followed, given, is_end, no_cause, step, take_line}
+use Rattle.transcript_read.specs.Heads.{NoneGoesOn}
 use Rattle.transcript_read.specs.Places.{Spot, first_spot, next_spot, walk}
+use Rattle.transcript_read.proofs.BreakLaws.{AllLines, breaks_lines, front_line, later_are}
 use Rattle.transcript_read.proofs.LifeLaws.{life_of, life_told, lives_shown, lives_told, told_fit, told_shown}
 use Rattle.transcript_read.proofs.WalkLaws.{FromInterfaces, Life, LivesFit, after_number, from, life_walk, lives_in, lives_walk, spot, spot_step, walk_step}
 
@@ -183,12 +182,6 @@ lives_end after law first texts ifaces (life ∷ lives) spells =
       is = refl;
     }
 
-front_line : (line : Texts.Line) (rest : List ℕ) → Lacks 10 line → front_in (ended line ++ rest) ≡ Whole line
-front_line [] rest free = ap (front_by (10 ∷ rest)) (split_whole 10 [] rest refl)
-front_line (byte ∷ line) rest free =
-    let text = ended (byte ∷ line) ++ rest in
-    ap (front_by text) (ap (split_at_byte 10) (append_assoc (byte ∷ line) (10 ∷ []) rest) ∙ split_whole 10 (byte ∷ line) rest free)
-
 never_stops : {J : Type 0} (after : J → Line → J) (more : List Texts.Line) (rest : List ℕ) (state end : Reading J) → AreLines more → rest ≡ lines_text more
     → run (step after) more state ≡ Some end → is_end end.spot.place ≡ true
     → StopsAt (step after) given state (front_in rest) → ⊥
@@ -202,39 +195,19 @@ never_stops after (line ∷ more) rest state end are text runs is stops =
     let none : step after state line ≡ None = subst (StopsAt (step after) given state) front stops in
     none-some end (sym (ap (option_and_then (run (step after) more)) none) ∙ runs)
 
+pub body_are : AllLines SpellsBody
+body_are = λ body all spells. all_map IsPrintable (Lacks 10) no_feed_in all spells.printable
+
 -- no body goes on after lines that were taken with what stops the reader
-goes_over : {J : Type 0} (after : J → Line → J) → LinesAreRead
-    → (first : J) (taken all : List Texts.Line) (state : Reading J) (rest : List ℕ) (body : BodyTold) → AreLines taken
-    → run (step after) taken (first_reading first) ≡ Some state → SpellsBody body all → lines_text all ≡ lines_text taken ++ rest
-    → StopsAt (step after) given state (front_in rest) → ⊥
-goes_over after law first taken all state rest body are runs spells same stops =
-    let ended = lives_end after law first all body.ifaces body.lives spells in
-    let g = goes_on taken all rest are (all_map IsPrintable (Lacks 10) no_feed_in all spells.printable) same in
-    let others : run (step after) g.more state ≡ Some ended.end =
-    sym (run_more (step after) taken g.more (first_reading first) state runs) ∙ ap (λ ls. run (step after) ls (first_reading first)) (sym g.whole)
-    ∙ ended.runs in
-    never_stops after g.more rest state ended.end g.are g.text others ended.is stops
-
--- where the front of what is left is this, and stops the reader, no body goes on with it
-abbrev FrontBreaks : {J : Type 0} → (J → Line → J) → Reading J → List ℕ → List Texts.Line → List ℕ → Option (Texts.Line × List ℕ) → Type 0
-FrontBreaks after state text taken rest o =
-    split_at_byte 10 rest ≡ o → StopsAt (step after) given state (front_by rest o) → Breaks SpellsBody text taken (front_by rest o)
-
-breaks_body : {J : Type 0} (after : J → Line → J) → LinesAreRead → (first : J) (text : List ℕ) (taken : List Texts.Line) (state : Reading J) (rest : List ℕ)
-    → AreLines taken
-    → run (step after) taken (first_reading first) ≡ Some state → text ≡ lines_text taken ++ rest → StopsAt (step after) given state (front_in rest)
-    → Breaks SpellsBody text taken (front_in rest)
-breaks_body after law first text taken state [] are runs cut stops =
-    λ body all spells same. goes_over after law first taken all state [] body are runs spells (sym same ∙ cut) stops
-breaks_body after law first text taken state (byte ∷ rest) are runs cut stops =
-    let whole = byte ∷ rest in
-    elim (split_at_byte 10 whole) as (λ o. FrontBreaks after state text taken whole o) [
-      | Some parts ↦ λ is none body all spells more same.
-          let front = front_line parts.0 more (split_sound 10 whole parts.0 parts.1 is).1 in
-          goes_over after law first taken all state (ended parts.0 ++ more) body are runs spells
-          (same ∙ append_assoc (lines_text taken) (ended parts.0) more) (subst (StopsAt (step after) given state) (sym front) none)
-      | None ↦ λ is unended body all spells same. goes_over after law first taken all state whole body are runs spells (sym same ∙ cut) stops
-    ] refl stops
+none_over : {J : Type 0} (after : J → Line → J) → LinesAreRead → (first : J) (taken : List Texts.Line) (state : Reading J) (rest : List ℕ)
+    → run (step after) taken (first_reading first) ≡ Some state → StopsAt (step after) given state (front_in rest)
+    → NoneGoesOn SpellsBody taken (front_in rest)
+none_over after law first taken state rest runs stops = λ body more spells same.
+    let ended = lives_end after law first (taken ++ more) body.ifaces body.lives spells in
+    let others : run (step after) more state ≡ Some ended.end =
+    sym (run_more (step after) taken more (first_reading first) state runs) ∙ ended.runs in
+    let are = later_are taken more (body_are body (taken ++ more) spells) in
+    never_stops after more (lines_text more) state ended.end are refl others ended.is (subst (StopsAt (step after) given state) (sym same) stops)
 
 pub none_read : {J : Type 0} (after : J → Line → J) → LinesAreRead → (text : List ℕ) (first : J) (number : ℕ) (why : BadText)
     → Stopped (step after) given no_cause (first_reading first) text number why → IsBadAt text number
@@ -246,5 +219,6 @@ none_read after law text first number why stopped =
       are = took.are;
       cut = took.cut;
       counted = took.counted;
-      breaks = breaks_body after law first text took.lines stopped.state stopped.rest took.are took.runs took.cut stopped.stops;
+      breaks = breaks_lines SpellsBody body_are text took.lines stopped.rest took.are took.cut
+          (none_over after law first took.lines stopped.state stopped.rest took.runs stopped.stops);
     }

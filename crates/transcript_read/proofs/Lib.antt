@@ -1,5 +1,9 @@
-mod BodyLaws
 mod InnerLaws
-mod LifeLaws
-mod LoopLaws
 mod WalkLaws
+mod LifeLaws
+mod BodyLaws
+mod LoopLaws
+mod BreakLaws
+mod HeadLaws
+mod ConfLaws
+mod TranscriptLaws

@@ -1,3 +1,5 @@
 pub mod Places
 pub mod Bodies
 pub mod Contents
+pub mod Heads
+pub mod Whole

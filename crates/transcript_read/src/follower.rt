@@ -1,8 +1,11 @@
 //! What goes through the lines of a transcript.
 ghost use Rattle.std.specs.Prelude.{◌≡◌, ℕ, IfOk};
+ghost use Rattle.conf_text.specs.Configurations.{Configuration};
+ghost use Rattle.conf_text.specs.Contents.{configuration};
 ghost use Rattle.script_model.specs.Lines.{Line};
 ghost use Rattle.transcript_lines.specs.Contents.{line_of};
 
+use conf_text::Conf;
 use net_types::NoMemory;
 use std::alloc::Global;
 use transcript_lines::ToldLine;
@@ -14,8 +17,15 @@ pub trait Follower: Sized {
 
     ghost state: { Self → State };
 
+    // The state before the lines after the head, by the configuration in the head.
+    ghost first: { Configuration → State };
+
     // The state after a line more.
     ghost after: { State → Line → State };
+
+    /// Begins with the configuration, before the first line after the head.
+    fn begin(alloc: Global, conf: Conf) -> Result<Self, NoMemory>
+        ensures { IfOk result (λ begun. state begun ≡ first (configuration conf)) };
 
     /// Takes one line more.
     fn follow(self, alloc: Global, line: &ToldLine<'_>) -> Result<Self, NoMemory>

@@ -1,4 +1,4 @@
-use Rattle.std.proofs.Common.{sym}
+use Rattle.std.proofs.Common.{sym, ap, length, ◌+◌, ◌∙◌, if◌then◌else◌}
 use Rattle.std.proofs.lemmas.Map.Views.{All-insert_key}
 use Rattle.net_types.proofs.ListLaws.{split_smaller}
 use Rattle.net_types.proofs.ReadsLaws.{split_sound}
@@ -17,5 +17,6 @@ lines-preserved c = record {
   goes_on =
       one_row _ c.lines.rest.now c.in-Some.others.now c.in-Some.line.now _ _ _
       (split_sound 10 c.lines.rest.now c.in-Some.line.now c.in-Some.others.now (sym c.in-Some.ensures)).0
-      c.in-Some-row_on.ensures.0 c.in-Ok-true.ensures.keys c.lines.invariant.goes_on;
+      c.in-Some-row_on.ensures.0 c.in-Ok-true.ensures.keys
+      (c.in-Ok-true.ensures.len ∙ ap (λ added. length c.lines.rows.keys + (if added then 1 else 0)) c.in-Ok-true.field-0-test) c.lines.invariant.goes_on;
 }

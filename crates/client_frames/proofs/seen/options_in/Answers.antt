@@ -3,7 +3,7 @@ use Rattle.std.proofs.lemmas.List.{length-drop}
 use Rattle.v4_options.specs.Overload.{overload_in}
 use Rattle.v4_message.specs.Message.{options_area, file_area, sname_area, message_instances, malformed_place}
 use Rattle.v4_message.proofs.Places.{malformed_message, file_len, sname_len}
-use Rattle.lab_peer.proofs.client_frame.options_in.Goals as goal
+use Rattle.client_frames.proofs.seen.options_in.Goals as goal
 
 pub options_of-requires : goal.options_of-requires
 options_of-requires c =

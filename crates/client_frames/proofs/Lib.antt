@@ -1,0 +1,2 @@
+pub mod FrameData
+pub mod NoMessages

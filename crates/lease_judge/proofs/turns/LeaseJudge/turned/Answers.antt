@@ -1,0 +1,29 @@
+use Rattle.std.proofs.Common.{◌≡◌, ◌∙◌, List, Option, sym, subst, ap}
+use Rattle.v4_message.specs.Requests.{ask_content}
+use Rattle.v4_client.specs.Settings.{settings_content}
+use Rattle.audit_words.specs.Shown.{site_shown}
+use Rattle.audit_words.specs.declared.shown.Offer.{Offer}
+use Rattle.own_frames4.specs.Offered.{messages_by}
+use Rattle.lease_judge.specs.Turns.{JudgeContent, Tells}
+use Rattle.lease_judge.specs.Watched.{judge_shown, sees_by}
+use Rattle.lease_judge.proofs.TurnsTold.{still_tells}
+use Rattle.lease_judge.proofs.turns.LeaseJudge.turned.Goals as goal
+
+pub returns : goal.returns
+returns c =
+    λ past tells.
+    let site = c.args.site.now in
+    let entry = c.args.entry.now in
+    let old = c.self.inside in
+    still_tells site entry past (settings_content old.set) old.watch c.in_ok-seen.seen c.in_ok-watch.watch
+    (record {
+      messages = c.in_ok-messages.messages.items;
+      read =
+          c.in_ok-messages.ensures
+          ∙ ap (λ (offers : List Offer). messages_by site.managed (ask_content old.set.ask) offers) c.deref.ensures.value;
+      sees =
+          c.in_ok-seen.ensures.seen
+          ∙ (λ i. sees_by entry.moment (c.index.ensures i) entry.event (c.deref-2.ensures.value i) (judge_shown old.watch));
+      hears = c.in_ok-watch.ensures.shown;
+    })
+    (subst (λ (content : JudgeContent). Tells content (site_shown site) past) (sym c.self.view_is) tells)

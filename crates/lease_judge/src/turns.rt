@@ -1,0 +1,141 @@
+//! A judge of leases, which takes one turn after another (RFC 2131, sections 3.1 and 4.4).
+
+ghost use Rattle.std.specs.Prelude.{◌≡◌, ◌∷◌, [], List, IfOk};
+ghost use Rattle.std.specs.Option.{option_map};
+ghost use Rattle.net_types.specs.Moments.{IsMoment};
+ghost use Rattle.v4_client.specs.Settings.{settings_content};
+ghost use Rattle.v4_frames.specs.Heard.{heard_shown};
+ghost use Rattle.evidence_words.specs.Entries as told_entries;
+ghost use Rattle.lease_evidence.specs.Replies.{arrival_in, message_on, reply_by};
+ghost use Rattle.audit_words.specs.Shown.{FitsSite, entry_shown, site_shown};
+ghost use Rattle.lease_judge.specs.Turns.{Tells};
+ghost use Rattle.lease_judge.specs.Watched.{HasMoments, hears_by, judge_shown};
+
+use crate::watch::Watch;
+use audit_words::{Entry, Site};
+use iface_core::settings_of;
+use net_types::NoMemory;
+use own_frames4::messages_of;
+use std::alloc::Global;
+use std::marker::Model;
+use v4_client::{Answer4, Arrival4, Exchange4, Set4, reply_in};
+use v4_frames::{Heard4, heard4_of};
+use world::Event;
+
+/// A judge of the leases of one interface: the settings of its client, and what is kept of its turns.
+#[derive(Drop)]
+pub struct LeaseJudge {
+    set: Set4,
+    watch: Watch,
+}
+
+impl Model for LeaseJudge {
+    ghost use Rattle.v4_client.specs.Settings.{settings_content};
+    ghost use Rattle.lease_judge.specs.Turns.{IsSound, JudgeContent};
+
+    ghost Value = { JudgeContent };
+
+    ghost view = { λ j. record { settings = settings_content j.set; watch = j.watch } };
+
+    ghost invariant = { λ j. IsSound (record { settings = settings_content j.set; watch = j.watch }) };
+}
+
+/// The server's message that came in on the interface.
+fn message_on<'a>(site: &Site, entry: &'a Entry) -> Option<Heard4<'a>>
+    ensures { option_map heard_shown result ≡ message_on (site_shown site.now) entry.now.event entry.now.bytes.items }
+{
+    match entry.event {
+        Event::Frame { iface, .. } if site.index() == iface => {
+            heard4_of(site.managed.spec.mac, &entry.bytes)
+        }
+        Event::Frame { .. }
+        | Event::Carrier { .. }
+        | Event::Duplicate { .. }
+        | Event::Release { .. }
+        | Event::Rebind { .. }
+        | Event::Stop
+        | Event::Quiet
+        | Event::End => None,
+    }
+}
+
+/// What the input of a turn says in an exchange: an ACK with its terms, or a NAK, where it is acceptable.
+fn reply_to(
+    alloc: Global,
+    set: &Set4,
+    site: &Site,
+    entry: &Entry,
+    exchange: Exchange4,
+) -> Result<Answer4, NoMemory>
+    requires { IsMoment exchange.first }
+    ensures { IfOk result
+        (λ answer. answer
+        ≡ reply_by (settings_content set.now) exchange (arrival_in (site_shown site.now) (entry_shown entry.now))) }
+{
+    let Some(heard) = message_on(site, entry) else {
+        return Ok(Answer4::Nothing);
+    };
+    let arrival = Arrival4 {
+        message: heard.message,
+        source: heard.source,
+        at: entry.moment,
+    };
+    reply_in(alloc, set, &arrival, exchange)
+}
+
+/// What is kept after what a server says in the open exchange. The first ACK of an exchange is its answer: what comes
+/// after it in that exchange counts for nothing.
+fn heard(
+    alloc: Global,
+    set: &Set4,
+    site: &Site,
+    entry: &Entry,
+    watch: Watch,
+) -> Result<Watch, NoMemory>
+    requires { HasMoments watch }
+    ensures shown { IfOk result
+        (λ next. judge_shown next
+        ≡ hears_by (settings_content set.now) (site_shown site.now) (entry_shown entry.now) (judge_shown watch)) }
+    ensures moments { IfOk result HasMoments }
+{
+    let Some(opened) = watch.seen.current else {
+        return Ok(watch);
+    };
+    if watch.answered == opened.number {
+        return Ok(watch);
+    }
+    let answer = reply_to(alloc, set, site, entry, opened.exchange)?;
+    Ok(watch.told(opened, answer))
+}
+
+impl LeaseJudge {
+    /// Before all turns.
+    pub fn first(alloc: Global, site: &Site) -> Result<LeaseJudge, NoMemory>
+        requires { FitsSite site.now }
+        ensures { IfOk result (λ judge. Tells judge (site_shown site.now) []) }
+    {
+        let set = settings_of(alloc, &site.managed, &site.duid)?;
+        Ok(LeaseJudge {
+            set,
+            watch: Watch::first(site.up),
+        })
+    }
+
+    /// After a turn. Only want of memory is an error, and more exchanges than 64 bits count.
+    pub fn turned(self, alloc: Global, site: &Site, entry: &Entry) -> Result<LeaseJudge, NoMemory>
+        requires { IsMoment entry.now.moment }
+        ensures { IfOk result
+            (λ next. (past : List told_entries.Entry) → Tells self (site_shown site.now) past
+            → Tells next (site_shown site.now) (entry_shown entry.now ∷ past)) }
+    {
+        let messages = messages_of(alloc, &site.managed, &self.set.ask, &entry.offers)?;
+        let seen = self
+            .watch
+            .sees(entry.moment, site.index(), entry.event, &messages)?;
+        let watch = heard(alloc, &self.set, site, entry, seen)?;
+        Ok(LeaseJudge {
+            set: self.set,
+            watch,
+        })
+    }
+}

@@ -1,0 +1,4 @@
+pub mod ProbeTimes
+pub mod Targets
+pub mod ByAddress
+pub mod Table
