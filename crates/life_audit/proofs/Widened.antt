@@ -1,11 +1,11 @@
 -- What rests on leases that first Replies gave rests on leases that Replies gave.
-use Rattle.std.proofs.Common.{◌⊎◌, inl, inr, List}
+use Rattle.std.proofs.Common.{inl, inr, List}
 use Rattle.net_types.specs.declared.address.Net.{Net}
 use Rattle.net_types.specs.declared.address.Net6.{Net6}
 use Rattle.net_types.specs.declared.interface.IfIndex.{IfIndex}
 use Rattle.settings.specs.declared.interfaces.Managed.{Managed}
 use Rattle.v6_client.specs.declared.settings.IaAsk.{IaAsk}
-use Rattle.evidence.specs.Laws.{BasisWith, HasBasisAmong, HasShareAmong, LeasedBasis6, RestsWith}
+use Rattle.evidence.specs.Laws.{BasisWith, LeasedBasis6, RestsWith}
 use Rattle.evidence_words.specs.Entries.{Entry}
 use Rattle.evidence_words.specs.IfaceLives.{now_in}
 use Rattle.evidence_words.specs.Inputs.{Site}
