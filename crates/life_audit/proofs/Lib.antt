@@ -1,2 +1,3 @@
 mod HostShown
 pub mod LinesRest
+pub mod Widened

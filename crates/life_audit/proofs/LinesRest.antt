@@ -195,7 +195,7 @@ module _ (managed : List Managed) (specs : List IfSpec) (world : World) (fit : A
       (fronts_just held coming more (shown_next shown (turn_lived met closing)) next all front rest
       (ap (λ r. turns_lived (mets_of managed r coming) (hold_lines held)) (one_more managed turns began given) ∙ same_tail split))
 
-pub lines_rest : LinesRestOnEvidence meets_all
+pub lines_rest : LinesRestOnEvidence HeldBasis meets_all
 lines_rest managed specs world coming fit shares others numbered named octets order early front rest split =
     let opening : OpeningMet = opening_of managed specs world in
     let mets : List Met = mets_of managed (running_opened managed specs world) coming in
@@ -240,8 +240,8 @@ handled_bytes managed running (given ∷ coming) all =
     which true later = tt
     which false later = (all.0, later)
 
-pub told_lines_rest : LinesRestOnEvidence meets_told
+pub told_lines_rest : LinesRestOnEvidence HeldBasis meets_told
 told_lines_rest managed specs world coming fit shares others numbered named octets order early =
     let began : Running = running_opened managed specs world in
-    subst (λ mets. ShowsJustly managed specs (opening_of managed specs world) mets) (sym (handled_met managed began coming))
+    subst (λ mets. ShowsJustly HeldBasis managed specs (opening_of managed specs world) mets) (sym (handled_met managed began coming))
     (lines_rest managed specs world (handled managed began coming) fit shares others numbered named (handled_bytes managed began coming octets) order early)

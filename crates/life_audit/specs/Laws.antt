@@ -17,6 +17,11 @@ use Rattle.turn_model.specs.HostInLife.{running_opened}
 use Rattle.evidence.specs.HeldAddresses.{mets_of}
 use Rattle.evidence.specs.Laws.{AreNumbered, AreSharedWithOthers, HasBasisIn, LeasedBasis6}
 use Rattle.lease6_evidence.specs.ItemBasis.{ItemBasis}
+use Rattle.lease6_judge.specs.HeardBasis.{HeardAddressBasis, HeardBasis}
+use Rattle.evidence_words.specs.Entries.{Entry}
+use Rattle.evidence_words.specs.IfaceLives.{now_in}
+use Rattle.evidence_words.specs.Inputs.{Site}
+use Rattle.net_types.specs.declared.address.Net.{Net}
 use Rattle.transcript_model.specs.Told.{TurnTold}
 use Rattle.audit_model.specs.Showing.{read_in_line, shown_after, shown_at_first, site_by}
 use Rattle.audit_model.specs.Verdicts.{BasisWord, IsJust}
@@ -26,12 +31,20 @@ use Rattle.audit_model.specs.LivesTold.{life_lived}
 abbrev pub HeldBasis : BasisWord
 HeldBasis managed sites past index net = HasBasisIn LeasedBasis6 ItemBasis managed sites past index net
 
+-- an address of a DHCPv6 lease that a Reply gave, the first one or a later one
+abbrev pub HeardAddress : Site → Net → List Entry → Type 0
+HeardAddress site net past = HeardAddressBasis site net (now_in past) past
+
+-- The leases of DHCPv6 are those that any Replies gave.
+abbrev pub HeardBasisIn : BasisWord
+HeardBasisIn managed sites past index net = HasBasisIn HeardAddress HeardBasis managed sites past index net
+
 -- After the opening, and after each of these turns, all that the lines of the life show is justified.
-abbrev pub ShowsJustly : List Managed → List IfSpec → OpeningMet → List Met → Type 0
-ShowsJustly managed specs opening mets =
+abbrev pub ShowsJustly : BasisWord → List Managed → List IfSpec → OpeningMet → List Met → Type 0
+ShowsJustly Rests managed specs opening mets =
     let life = life_lived opening mets in
     (front rest : List TurnTold) → life.turns ≡ front ++ rest
-    → IsJust HeldBasis managed
+    → IsJust Rests managed
     (site_by managed (map (λ spec. spec.mac) specs) opening.begin.up (flat_map read_in_line life.opening))
     (shown_after (shown_at_first life) front)
 
@@ -48,10 +61,10 @@ abbrev pub meets_told : Meets
 meets_told managed specs world coming =
     told_turns managed (running_opened managed specs world).life (running_opened managed specs world).world coming
 
-abbrev pub LinesRestOnEvidence : Meets → Type 0
-LinesRestOnEvidence meets =
+abbrev pub LinesRestOnEvidence : BasisWord → Meets → Type 0
+LinesRestOnEvidence Rests meets =
     (managed : List Managed) (specs : List IfSpec) (world : World) (coming : List Given) → AreManaged managed
     → SharesAreManaged managed → AreSharedWithOthers managed → AreNumbered managed → AreNamedApart managed
     → AllByRecursion (λ (given : Given). AreBytes given.bytes) coming → InRowOrder world.host.told.rows
     → world.link.told.begin.at < 10 ^ 15
-    → ShowsJustly managed specs (opening_of managed specs world) (meets managed specs world coming)
+    → ShowsJustly Rests managed specs (opening_of managed specs world) (meets managed specs world coming)
