@@ -4,8 +4,8 @@ ghost use Rattle.std.specs.Prelude.{◌≡◌};
 ghost use Rattle.evidence_words.specs.Inputs.{index_at};
 ghost use Rattle.audit_words.specs.Shown.{site_shown};
 
-use lease6_text::Lease6;
 use lease_text::Lease4;
+use lease6_text::Lease6;
 use net_types::{IfIndex, Mac};
 use settings::Managed;
 use v6_options::Duid;

@@ -15,8 +15,8 @@ ghost use Rattle.daemon.specs.Files.{known_of, keeps_of};
 ghost use Rattle.daemon.specs.Loading.{loading_own, LoadsOne, LoadsLeases, LoadsOwn, LoadsAll};
 
 use crate::duids::{duid_copied, host_duid, some_need_duid};
-use crate::keeping::{Keeps, KeptFile, Known};
 use crate::filed::{first_lease, first_lease6};
+use crate::keeping::{Keeps, KeptFile, Known};
 use crate::names::{DUID_FILE, RESOLVER_FILE, lease4_file, lease6_file};
 use crate::outside::Outside;
 use crate::stores::read;
