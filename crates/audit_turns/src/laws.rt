@@ -1,0 +1,6 @@
+ghost use Rattle.audit_turns.specs.Laws.{GoesOnAsLived};
+
+/// Law: what goes on changes with each line of a turn as the life does of which an auditor is to keep account.
+pub fn what_goes_on_is_the_lifes()
+    ensures { GoesOnAsLived }
+{}
