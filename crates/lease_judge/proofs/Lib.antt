@@ -5,3 +5,4 @@ pub mod ProbedTold
 pub mod LeasesTold
 mod ShownMessages
 mod TurnsTold
+mod ProbesHeld

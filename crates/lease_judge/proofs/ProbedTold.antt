@@ -1,5 +1,5 @@
 -- The test of a probed address tells that it was probed.
-use Rattle.std.proofs.Common.{◌≡◌, ℕ, Bool, true, false, not, ◌&&◌, ◌||◌, ◌⊎◌, inl, inr, List, [], ◌∷◌, ◌++◌, Option, Some, None, refl, sym, subst, ap, ◌∙◌}
+use Rattle.std.proofs.Common.{◌≡◌, ℕ, Bool, true, false, not, ◌&&◌, ◌||◌, ◌⊎◌, inl, inr, List, [], ◌∷◌, ◌++◌, refl, sym, subst, ap, ◌∙◌}
 use Rattle.std.specs.Prelude.{◌==◌}
 use Rattle.std.specs.List.{list_any}
 use Rattle.net_types.specs.declared.address.Ip4.{Ip4}
@@ -11,11 +11,11 @@ use Rattle.evidence_words.specs.Probed.{TurnWord, Probes, EachAfter, Probed}
 use Rattle.local_evidence.specs.LinkLocalBasis.{Anything}
 use Rattle.lease_evidence.specs.Exchanges.{messages_at}
 use Rattle.lease_evidence.specs.LeaseBasis.{tells_end, Calm}
-use Rattle.local_judge.specs.ProbeTimes.{TurnTest, is_past, times_in}
+use Rattle.probe_table.specs.ProbeTimes.{TurnTest, is_past, times_in}
 use Rattle.local_judge.specs.Choices as local
 use Rattle.local_judge.proofs.Calmness.{Tells, calm_tells}
 use Rattle.local_judge.proofs.ProbesTold.{three_told}
-use Rattle.lease_judge.specs.Judge.{Judge, stays, is_calm, judge_in}
+use Rattle.lease_judge.specs.Judge.{stays}
 use Rattle.lease_judge.specs.ProbedTurns.{calm_in, probed_in}
 use Rattle.lease_judge.proofs.AsObserver.{carrier_same}
 

@@ -3,4 +3,5 @@ pub mod ProbedTurns
 pub mod Leased
 pub mod Laws
 pub mod Watched
+pub mod Probes
 pub mod Turns

@@ -1,9 +1,9 @@
 -- Whether an address is probed, kept turn by turn (RFC 5227, section 2.1.1). Moments are in milliseconds since 1970.
-use Rattle.std.specs.Prelude.{ℕ, Bool, false, ◌&&◌, ◌||◌, List, [], ◌∷◌}
+use Rattle.std.specs.Prelude.{Bool, false, ◌&&◌, ◌||◌, List, [], ◌∷◌}
 use Rattle.net_types.specs.declared.address.Ip4.{Ip4}
 use Rattle.evidence_words.specs.Entries.{Entry}
 use Rattle.evidence_words.specs.Inputs.{Site}
-use Rattle.local_judge.specs.ProbeTimes.{TurnTest, is_past, times_in}
+use Rattle.probe_table.specs.ProbeTimes.{TurnTest, is_past, times_in}
 use Rattle.lease_judge.specs.Judge.{is_calm, judge_in}
 
 -- whether a turn ends no lease

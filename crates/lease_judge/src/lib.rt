@@ -1,7 +1,8 @@
-//! A judge of leased addresses: it tells, a turn at a time, whether an address was granted.
+//! A judge of leased addresses: it tells, a turn at a time, whether an address was granted and probed.
 #![tactic(auto)]
 
 mod laws;
+mod probes;
 mod turns;
 mod watch;
 

@@ -8,13 +8,15 @@ ghost use Rattle.v4_frames.specs.Heard.{heard_shown};
 ghost use Rattle.evidence_words.specs.Entries as told_entries;
 ghost use Rattle.lease_evidence.specs.Replies.{arrival_in, message_on, reply_by};
 ghost use Rattle.audit_words.specs.Shown.{FitsSite, entry_shown, site_shown};
+ghost use Rattle.lease_judge.specs.Leased.{is_leased};
 ghost use Rattle.lease_judge.specs.Turns.{Tells};
 ghost use Rattle.lease_judge.specs.Watched.{HasMoments, hears_by, judge_shown};
 
+use crate::probes::LeaseProbes;
 use crate::watch::Watch;
 use audit_words::{Entry, Site};
 use iface_core::settings_of;
-use net_types::NoMemory;
+use net_types::{Net, NoMemory};
 use own_frames4::messages_of;
 use std::alloc::Global;
 use std::marker::Model;
@@ -22,11 +24,13 @@ use v4_client::{Answer4, Arrival4, Exchange4, Set4, reply_in};
 use v4_frames::{Heard4, heard4_of};
 use world::Event;
 
-/// A judge of the leases of one interface: the settings of its client, and what is kept of its turns.
+/// A judge of the leases of one interface: the settings of its client, what is kept of its turns, and of the addresses
+/// that are probed.
 #[derive(Drop)]
 pub struct LeaseJudge {
     set: Set4,
     watch: Watch,
+    probes: LeaseProbes,
 }
 
 impl Model for LeaseJudge {
@@ -35,9 +39,9 @@ impl Model for LeaseJudge {
 
     ghost Value = { JudgeContent };
 
-    ghost view = { λ j. record { settings = settings_content j.set; watch = j.watch } };
+    ghost view = { λ j. record { settings = settings_content j.set; watch = j.watch; probes = j.probes } };
 
-    ghost invariant = { λ j. IsSound (record { settings = settings_content j.set; watch = j.watch }) };
+    ghost invariant = { λ j. IsSound (settings_content j.set) j.watch };
 }
 
 /// The server's message that came in on the interface.
@@ -110,6 +114,7 @@ fn heard(
 
 impl LeaseJudge {
     /// Before all turns.
+    #[tactic(auto, using(crate::proofs::ProbesHeld::none_held))]
     pub fn first(alloc: Global, site: &Site) -> Result<LeaseJudge, NoMemory>
         requires { FitsSite site.now }
         ensures { IfOk result (λ judge. Tells judge (site_shown site.now) []) }
@@ -118,6 +123,7 @@ impl LeaseJudge {
         Ok(LeaseJudge {
             set,
             watch: Watch::first(site.up),
+            probes: LeaseProbes::new(alloc),
         })
     }
 
@@ -129,13 +135,31 @@ impl LeaseJudge {
             → Tells next (site_shown site.now) (entry_shown entry.now ∷ past)) }
     {
         let messages = messages_of(alloc, &site.managed, &self.set.ask, &entry.offers)?;
+        let calm = self.watch.is_calm(site.index(), entry.event, &messages);
         let seen = self
             .watch
             .sees(entry.moment, site.index(), entry.event, &messages)?;
         let watch = heard(alloc, &self.set, site, entry, seen)?;
+        let probes = self.probes.turned(alloc, site, entry, calm)?;
         Ok(LeaseJudge {
             set: self.set,
             watch,
+            probes,
         })
+    }
+
+    /// Whether an address has its basis as a leased one at a moment in milliseconds since 1970.
+    #[tactic(auto, using(crate::proofs::TurnsTold::gives_so))]
+    pub fn gives(&self, site: &Site, net: Net, now: u64) -> bool
+        ensures { (past : List told_entries.Entry) → Tells self.now (site_shown site.now) past
+            → result ≡ is_leased (site_shown site.now) net now past }
+    {
+        match net {
+            Net::V4(net) => {
+                self.watch.grants(net, now)
+                    && (site.managed.conf.noarp || self.probes.is_probed(net.ip))
+            }
+            Net::V6(_) => false,
+        }
     }
 }

@@ -4,15 +4,16 @@
 ghost use Rattle.std.specs.Prelude.{◌≡◌, ◌&&◌, not, IfOk};
 ghost use Rattle.std.specs.List.{list_any};
 ghost use Rattle.net_types.specs.Moments.{IsMoment};
-ghost use Rattle.evidence_words.specs.Inputs.{carrier_after};
 ghost use Rattle.lease_evidence.specs.Exchanges.{exchange_of, opens, requests, says, show, shows};
 ghost use Rattle.lease_evidence.specs.LeaseBasis.{ends_lease, tells_end};
 ghost use Rattle.lease_judge.specs.Judge.{stays, told};
+ghost use Rattle.lease_judge.specs.Leased.{grants, is_same};
 ghost use Rattle.lease_judge.specs.Watched.{HasMoment, HasMoments, first_of, judge_shown, numbered_shown, seen_shown, sees_by};
 
 use lease_text::Terms4;
-use net_types::NoMemory;
-use v4_client::{Answer4, Exchange4};
+use net_types::{Net4, NoMemory};
+use probe_table::carrier_after;
+use v4_client::{Answer4, Exchange4, is_unexpired};
 use v4_frames::Sent4;
 use v4_message::{Kind4, Said4};
 use world::Event;
@@ -156,23 +157,6 @@ fn stays(up: bool, index: u32, event: Event) -> bool
     }
 }
 
-/// Whether the interface has carrier after a turn.
-fn carrier_after(index: u32, event: Event, before: bool) -> bool
-    ensures { result ≡ carrier_after index event before }
-{
-    match event {
-        Event::Carrier { iface, up } if index == iface => up,
-        Event::Carrier { .. }
-        | Event::Frame { .. }
-        | Event::Duplicate { .. }
-        | Event::Release { .. }
-        | Event::Rebind { .. }
-        | Event::Stop
-        | Event::Quiet
-        | Event::End => before,
-    }
-}
-
 /// Whether a message of the client tells that no lease is held.
 fn tells_end(message: Option<Sent4>) -> bool
     ensures { result ≡ tells_end message }
@@ -190,6 +174,12 @@ fn ends_lease(kind: Kind4) -> bool
         Kind4::Discover | Kind4::Decline | Kind4::Release => true,
         Kind4::Request => false,
     }
+}
+
+fn is_same(net: Net4, other: Net4) -> bool
+    ensures { result ≡ is_same net other }
+{
+    net.ip == other.ip && net.len == other.len
 }
 
 /// Whether one of these messages tells that.
@@ -265,6 +255,20 @@ impl Watch {
                 ..self
             },
             Answer4::Nothing | Answer4::Offer { .. } => self,
+        }
+    }
+
+    /// Whether the grant gives the address, and isn't over.
+    pub fn grants(&self, net: Net4, now: u64) -> bool
+        requires { HasMoments self.now }
+        ensures { result ≡ grants (judge_shown self.now).granted net now }
+    {
+        match self.granted {
+            None => false,
+            Some(granted) => {
+                is_same(net, granted.terms.net)
+                    && is_unexpired(granted.opened.exchange.first, granted.terms.lease, now)
+            }
         }
     }
 }

@@ -1,6 +1,4 @@
-use Rattle.std.proofs.Common.{◌≡◌, take}
-use Rattle.lease_evidence.specs.Exchanges.{show}
-use Rattle.lease_judge.specs.Watched.{seen_shown}
+use Rattle.std.proofs.Common.{take}
 use Rattle.lease_judge.proofs.ShownMessages.{SeenSoFar}
 use Rattle.lease_judge.proofs.watch.Seen.after.Given as goal
 
