@@ -1,5 +1,5 @@
 -- A share is told by the prefixes held.
-use Rattle.std.proofs.Common.{◌≡◌, ℕ, Bool, true, false, ◌&&◌, not, List, Option, Some, None, refl, sym, ap, ◌∙◌}
+use Rattle.std.proofs.Common.{◌≡◌, ℕ, ◌⊎◌, inl, inr, Bool, true, false, ◌&&◌, not, List, Option, Some, None, refl, sym, ap, ◌∙◌}
 use Rattle.std.proofs.lemmas.Bool.{and_parts, and_from, eqb-true, eq-eqb}
 use Rattle.std.specs.Prelude.{◌==◌, ◌≢◌}
 use Rattle.std.specs.List.{list_any}
@@ -10,14 +10,16 @@ use Rattle.net_types.specs.declared.interface.IfIndex.{IfIndex}
 use Rattle.prefix_share.specs.Subnets.{subnet_in}
 use Rattle.settings.specs.declared.dhcp6_conf.ShareConf.{ShareConf}
 use Rattle.client_model.specs.WantedRows.{first_address}
+use Rattle.v6_client.specs.declared.settings.IaAsk.{IaAsk}
 use Rattle.v6_client_laws.proofs.Given.{met}
 use Rattle.evidence_words.specs.Entries.{Entry}
+use Rattle.evidence_words.specs.IfaceLives.{now_in}
 use Rattle.evidence_words.specs.Inputs.{Site}
 use Rattle.evidence.specs.ShareBasis.{ShareBasisOf}
 use Rattle.kept_judge.proofs.Lists.{has_any}
 use Rattle.share_judge.specs.declared.prefix.HeldPrefix.{HeldPrefix}
 use Rattle.share_judge.specs.Sharing.{gives_by, gives_first, is_first, is_shared, shares_out}
-use Rattle.share_judge.specs.Laws.{IsGiven, ItemKind, Lists, ListsTellShares, SharesAreTold}
+use Rattle.share_judge.specs.Laws.{Either, IsGiven, ItemKind, Lists, ListsTellShares, SharesAreTold, SharesOfEither}
 
 -- ---- the first address of a subnet
 
@@ -140,3 +142,53 @@ shares_told Kind upstream index net past = (based Kind upstream index net past, 
 pub lists_tell : (Kind : ItemKind) → ListsTellShares Kind
 lists_tell Kind upstream index net past prefixes lists =
     (listed Kind upstream index net past prefixes lists, is_listed Kind upstream index net past prefixes lists)
+
+-- ---- kinds of basis
+
+module _ (One Other : ItemKind) (upstream : Site) (index : IfIndex) (net : Net) (past : List Entry) where
+  abbrev is_held_as : (Kind : ItemKind) (g : IsGiven (Either One Other) upstream index net past)
+      → Kind upstream g.held.ask g.one.net (now_in past) past → IsGiven Kind upstream index net past
+  is_held_as Kind g basis = record {
+    one = g.one;
+    held = record { ask = g.held.ask; asked = g.held.asked; is_prefix = g.held.is_prefix; iaid = g.held.iaid; basis = basis };
+    shares = g.shares;
+  }
+
+  given_by_either : IsGiven (Either One Other) upstream index net past
+      → IsGiven One upstream index net past ⊎ IsGiven Other upstream index net past
+  given_by_either g = elim g.held.basis [ inl one ↦ inl (is_held_as One g one) | inr other ↦ inr (is_held_as Other g other) ]
+
+  with_basis : (Kind Wider : ItemKind)
+      → ((ask : IaAsk) (prefix : Net6) → Kind upstream ask prefix (now_in past) past → Wider upstream ask prefix (now_in past) past)
+      → ShareBasisOf Kind upstream index net past → ShareBasisOf Wider upstream index net past
+  with_basis Kind Wider wider b = record {
+    ask = b.ask;
+    asked = b.asked;
+    is_prefix = b.is_prefix;
+    prefix = b.prefix;
+    basis = wider b.ask b.prefix b.basis;
+    share = b.share;
+    configured = b.configured;
+    of_the_prefixes = b.of_the_prefixes;
+    is_for = b.is_for;
+    is_another = b.is_another;
+    subnet = b.subnet;
+    is_subnet = b.is_subnet;
+    gives = b.gives;
+  }
+
+  of_either : ShareBasisOf (Either One Other) upstream index net past
+      → ShareBasisOf One upstream index net past ⊎ ShareBasisOf Other upstream index net past
+  of_either b = elim (given_by_either (given (Either One Other) upstream index net past b)) [
+    | inl one ↦ inl (based One upstream index net past one)
+    | inr other ↦ inr (based Other upstream index net past other)
+  ]
+
+  either_of : ShareBasisOf One upstream index net past ⊎ ShareBasisOf Other upstream index net past
+      → ShareBasisOf (Either One Other) upstream index net past
+  either_of (inl one) = with_basis One (Either One Other) (λ ask prefix basis. inl basis) one
+  either_of (inr other) = with_basis Other (Either One Other) (λ ask prefix basis. inr basis) other
+
+pub shares_of_either : (One Other : ItemKind) → SharesOfEither One Other
+shares_of_either One Other upstream index net past =
+    (of_either One Other upstream index net past, either_of One Other upstream index net past)

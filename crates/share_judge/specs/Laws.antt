@@ -1,5 +1,5 @@
 -- What the prefixes that an interface holds tell of the addresses out of them.
-use Rattle.std.specs.Prelude.{◌≡◌, ◌↔◌, ℕ, true, List}
+use Rattle.std.specs.Prelude.{◌≡◌, ◌↔◌, ◌⊎◌, ℕ, true, List}
 use Rattle.std.specs.List.{Contains}
 use Rattle.net_types.specs.declared.address.Net.{Net}
 use Rattle.net_types.specs.declared.address.Net6.{Net6}
@@ -49,6 +49,16 @@ abbrev pub ListsTellShares : ItemKind → Type 0
 ListsTellShares Kind = (upstream : Site) (index : IfIndex) (net : Net) (past : List Entry)
     (prefixes : List HeldPrefix) → Lists Kind upstream past prefixes
     → (is_shared upstream.managed index net prefixes ≡ true) ↔ ShareBasisOf Kind upstream index net past
+
+-- A share rests on the one kind of basis or the other.
+abbrev pub Either : (One Other : ItemKind) → ItemKind
+Either One Other upstream ask prefix now past =
+    One upstream ask prefix now past ⊎ Other upstream ask prefix now past
+
+abbrev pub SharesOfEither : (One Other : ItemKind) → Type 0
+SharesOfEither One Other = (upstream : Site) (index : IfIndex) (net : Net) (past : List Entry)
+    → ShareBasisOf (Either One Other) upstream index net past
+    ↔ (ShareBasisOf One upstream index net past ⊎ ShareBasisOf Other upstream index net past)
 
 -- An address rests on a share of a kept prefix exactly where that is told of the interface upstream.
 abbrev pub KeptSharesAreTold : Type 0

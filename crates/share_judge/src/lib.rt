@@ -7,6 +7,8 @@ mod prefix;
 mod sharing;
 
 pub use kept::kept_shares;
-pub use laws::{kept_shares_are_told, listed_prefixes_tell_shares, shares_are_told};
+pub use laws::{
+    kept_shares_are_told, listed_prefixes_tell_shares, shares_are_of_either, shares_are_told,
+};
 pub use prefix::HeldPrefix;
 pub use sharing::{is_shared, shares_out};

@@ -1,0 +1,7 @@
+use Rattle.lease6_evidence.specs.ItemBasis.{ItemBasis}
+use Rattle.lease6_evidence.specs.KeptBasis6.{KeptBasis6}
+use Rattle.share_judge.proofs.Told.{shares_of_either}
+use Rattle.share_judge.proofs.laws.shares_are_of_either.Goals as goal
+
+pub returns : goal.returns
+returns c = shares_of_either ItemBasis KeptBasis6
