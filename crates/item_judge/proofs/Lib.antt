@@ -1,0 +1,7 @@
+pub mod Opened
+pub mod TermTables
+pub mod Walked
+pub mod Parted
+pub mod Turned
+pub mod Giving
+pub mod OwnWalks
