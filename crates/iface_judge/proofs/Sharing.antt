@@ -35,7 +35,7 @@ use Rattle.share_judge.proofs.Told.{based, given, shares_of_either}
 use Rattle.share_judge.proofs.KeptTold.{kept_shares_told}
 use Rattle.iface_judge.specs.HeardShares.{is_heard_share, is_of, is_of_some, prefix_by}
 use Rattle.iface_judge.specs.Joined.{is_shared, of_number}
-use Rattle.iface_judge.specs.Laws.{SharesAreTold}
+use Rattle.iface_judge.specs.Laws.{SharedAddressesAreTold}
 
 -- ---- prefixes that the Replies give
 
@@ -66,7 +66,7 @@ as_prefix other said net is may held = absurd cc
 of_heard : (ask : IaAsk) (net : Net6) (site : Site) (number now : ℕ) (e : Entry) (past : List Entry) → ask.kind ≡ Pd
     → HeardItem site ask net number now e past → IsPrefix net
 of_heard ask net site number now e past is heard =
-    as_prefix heard.has.ia.kind heard.has.said net (heard.has.is.kind ∙ is) heard.has.may heard.has.item
+    as_prefix heard.has.ia.kind heard.has.said net (heard.has.is.kind_is ∙ is) heard.has.may heard.has.item
 
 of_since : (ask : IaAsk) (net : Net6) (site : Site) (number now : ℕ) (past : List Entry) → ask.kind ≡ Pd
     → Since (Spares site ask net number) (HeardItem site ask net number now) past → IsPrefix net
@@ -203,7 +203,7 @@ module _ (upstream : Site) (index : IfIndex) (net : Net) (past : List Entry) whe
   share_tells (inl of) = or_left heard kept (heard_tells upstream index net past of)
   share_tells (inr of) = or_right heard kept ((kept_shares_told upstream index net past).1 of)
 
-pub shares_told : SharesAreTold
+pub shares_told : SharedAddressesAreTold
 shares_told upstream index net past =
     let either = shares_of_either HeardBasis KeptBasis6 upstream index net past in
     (λ h. either.1 (share_so upstream index net past h), λ b. share_tells upstream index net past (either.0 b))

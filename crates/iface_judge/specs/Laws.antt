@@ -20,6 +20,6 @@ OwnAddressesAreTold = (site : Site) (net : Net) (past : List Entry)
     → (is_own site net past ≡ true) ↔ BasisWith HeardAddress site net past
 
 -- So with an address on another interface, out of a prefix of this one.
-abbrev pub SharesAreTold : Type 0
-SharesAreTold = (upstream : Site) (index : IfIndex) (net : Net) (past : List Entry)
+abbrev pub SharedAddressesAreTold : Type 0
+SharedAddressesAreTold = (upstream : Site) (index : IfIndex) (net : Net) (past : List Entry)
     → (is_shared upstream index.number net past ≡ true) ↔ ShareBasisOf (RestsWith HeardBasis) upstream index net past
