@@ -5,4 +5,4 @@ mod Announcing
 mod ChoicesTold
 mod AnnouncedOnly
 mod Turns
-mod Telling
+pub mod Telling

@@ -36,7 +36,7 @@ first_is (V6 net) subnet h =
     net_of net.ip.number (first_address subnet).ip.number net.len (first_address subnet).len
     (eqb-true net.ip.number (first_address subnet).ip.number parts.0) (eqb-true net.len (first_address subnet).len parts.1)
 
-is_first_by : (net : Net) (subnet : Net6) → net ≡ V6 (first_address subnet) → is_first net subnet ≡ true
+pub is_first_by : (net : Net) (subnet : Net6) → net ≡ V6 (first_address subnet) → is_first net subnet ≡ true
 is_first_by net subnet is =
     ap (λ (n : Net). is_first n subnet) is
     ∙ and_from ((first_address subnet).ip.number == (first_address subnet).ip.number) ((first_address subnet).len == (first_address subnet).len)
@@ -71,7 +71,7 @@ is_not false h = refl
 another : (a b : IfIndex) → not (a.number == b.number) ≡ true → a ≡ b → ⊥
 another a b h is = isnt (a.number == b.number) h (eq-eqb a.number b.number (ap (λ (i : IfIndex). i.number) is))
 
-is_another : (a b : IfIndex) → a ≢ b → not (a.number == b.number) ≡ true
+pub is_another : (a b : IfIndex) → a ≢ b → not (a.number == b.number) ≡ true
 is_another a b h = is_not (a.number == b.number) (λ e. h (same_index a b e))
 
 -- ---- shares
@@ -109,7 +109,7 @@ module _ (Kind : ItemKind) (upstream : Site) (index : IfIndex) (net : Net) (past
         gives = first.first;
       }
 
-  pub given : ShareBasisOf Kind upstream index net past → IsGiven Kind upstream index net past
+  abbrev pub given : ShareBasisOf Kind upstream index net past → IsGiven Kind upstream index net past
   given b = record {
     one = record { iaid = b.ask.iaid; net = b.prefix };
     held = record { ask = b.ask; asked = b.asked; is_prefix = b.is_prefix; iaid = refl; basis = b.basis };

@@ -1,0 +1,5 @@
+use Rattle.iface_judge.proofs.Sharing.{shares_told}
+use Rattle.iface_judge.proofs.laws.shared_addresses_are_told.Goals as goal
+
+pub returns : goal.returns
+returns c = shares_told

@@ -1,0 +1,3 @@
+pub mod HeardShares
+pub mod Joined
+pub mod Laws
