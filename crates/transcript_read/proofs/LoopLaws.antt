@@ -3,10 +3,13 @@ use Rattle.std.proofs.Common.{◌≡◌, ℕ, ◌+◌, List, [], ◌∷◌, ◌+
 use Rattle.net_types.specs.Cutting.{split_at_byte}
 use Rattle.net_types.specs.LineReading.{Gives, Stopped, StopsAt, Took}
 use Rattle.net_types.specs.TextLines.{front_by, front_in}
-use Rattle.net_types.proofs.LineSteps.{took_next}
+use Rattle.net_types.proofs.LineSteps.{took_next, took_none}
 use Rattle.net_types.proofs.ReadsLaws.{split_sound}
 use Rattle.script_model.specs.Lines.{Line}
 use Rattle.transcript_read.specs.Bodies.{Reading, StopsIn, given, no_cause, step}
+use Rattle.transcript_read.specs.declared.body.Body.{Body}
+use Rattle.transcript_read.specs.Contents.{ComesTo, Takes, WentOn, no_state, reading_at, standing}
+use Rattle.transcript_read.specs.Following.{Reaches}
 use Rattle.transcript_read.specs.declared.body.BodyAnswer.{BodyAnswer}
 use Rattle.transcript_read.specs.declared.body.BodyAnswer.TheVariants as answers
 use Rattle.transcript_lines.specs.LineSpellings.{LinesAreRead}
@@ -61,11 +64,50 @@ pub end_gives : {J : Type 0} (after : J → Line → J) (start state : Reading J
 end_gives after start state text rest number value took e is =
     record { number = number; state = state; took = subst (λ r. Took (step after) start text r number state) (no_rest rest e) took; gives = sym is }
 
-pub goes_next : {J : Type 0} (after : J → Line → J) (start state next : Reading J) (text rest line others : List ℕ) (number : ℕ)
-    → Took (step after) start text rest number state
-    → Some (line, others) ≡ split_at_byte 10 rest → Some next ≡ step after state line → Took (step after) start text others (number + 1) next
-goes_next after start state next text rest line others number took e is =
-    took_next (step after) start text rest others number state next line took (sym e) (sym is)
+-- ---- with what goes through
+
+-- The lines up to the rest were taken, and went through.
+pub record GoesOn {F J : Type 0} (Tells : F → J → Type 0) (after : J → Line → J) (start : Body F) (text rest : List ℕ) (number : ℕ) (body : Body F)
+    : Type 0 where
+  pub took : Took (step no_state) (standing start) text rest number (standing body)
+  pub went : (state : J) → Tells start.follower state → WentOn Tells after start state text rest number body
+
+pub goes_first : {F J : Type 0} (Tells : F → J → Type 0) (after : J → Line → J) (start : Body F) (text : List ℕ) → GoesOn Tells after start text text 1 start
+goes_first Tells after start text = record {
+  took = took_none (step no_state) (standing start) text;
+  went = λ state tells. record { state = state; comes = took_none (step after) (reading_at start state) text; tells = tells };
+}
+
+pub goes_next : {F J : Type 0} (Tells : F → J → Type 0) (after : J → Line → J) (start body next : Body F) (text rest line others : List ℕ) (number : ℕ)
+    → GoesOn Tells after start text rest number body
+    → Some (line, others) ≡ split_at_byte 10 rest → Takes (step no_state (standing body) line) (Some next)
+    → ((state : J) → Tells body.follower state → ComesTo Tells (step after (reading_at body state) line) next)
+    → GoesOn Tells after start text others (number + 1) next
+goes_next Tells after start body next text rest line others number goes e takes comes = record {
+  took = took_next (step no_state) (standing start) text rest others number (standing body) (standing next) line goes.took (sym e) (sym takes);
+  went = λ state tells.
+      let before = goes.went state tells in
+      let reached = comes before.state before.tells in
+      record {
+        state = reached.state;
+        comes = took_next (step after) (reading_at start state) text rest others number (reading_at body before.state) (reading_at next reached.state) line
+            before.comes (sym e) reached.comes;
+        tells = reached.tells;
+      };
+}
+
+pub all_gone : {F J : Type 0} (Tells : F → J → Type 0) (after : J → Line → J) (start body : Body F) (text rest : List ℕ) (number : ℕ)
+    → GoesOn Tells after start text rest number body
+    → length rest ≡ 0 → ((state : J) → given (reading_at body state) ≡ Some state) → (state : J) → Tells start.follower state
+    → Reaches Tells (Gives (step after) given (reading_at start state) text) body.follower
+all_gone Tells after start body text rest number goes none ended state tells =
+    let reached = goes.went state tells in
+    record {
+      state = reached.state;
+      comes = end_gives after (reading_at start state) (reading_at body reached.state) text rest number reached.state reached.comes none
+          (sym (ended reached.state));
+      tells = reached.tells;
+    }
 
 -- ---- what that says of the text
 

@@ -1,9 +1,11 @@
 //! The lines after the head of a transcript, read in one pass.
-ghost use Rattle.std.specs.Prelude.{◌≡◌, IfOk, IfErr, option_map};
+ghost use Rattle.std.specs.Prelude.{◌≡◌, None, Some, IfOk, IfErr, IfNone, IfSome};
 ghost use Rattle.net_types.specs.LineReading.{Gives};
+ghost use Rattle.transcript_lines.specs.Bounds.{FitsTold};
 ghost use Rattle.transcript_lines.specs.Contents.{line_of};
 ghost use Rattle.transcript_read.specs.Bodies.{IsFollowed, IsNoBody, StopsIn, given, step, take_line};
-ghost use Rattle.transcript_read.specs.Contents.{Takes, reading_of};
+ghost use Rattle.transcript_read.specs.Contents.{ComesTo, Takes, no_state, reading_at, standing};
+ghost use Rattle.transcript_read.specs.Following.{Reaches};
 ghost use Rattle.transcript_read.specs.declared.body.BodyAnswer.TheVariants as answers;
 ghost use Rattle.transcript_read.specs.Places.{next_ifaces};
 
@@ -52,10 +54,15 @@ fn with_role(ifaces: Interfaces, role: Role) -> Result<Option<Interfaces>, NoMem
 
 impl<F: Follower + Drop> Body<F> {
     /// With a line that was read.
-    fn with_line(self, alloc: Global, line: &ToldLine<'_>) -> Result<Option<Body<F>>, NoMemory>
-        ensures { IfOk result (Takes F.state (take_line F.after (reading_of F.state self) (line_of line.now))) }
+    fn with_line(self, alloc: Global, line: ToldLine<'_>) -> Result<Option<Body<F>>, NoMemory>
+        requires { FitsTold (line_of line) }
+        ensures takes { IfOk result (Takes (take_line no_state (standing self) (line_of line.entry))) }
+        ensures tells { IfOk result
+            (λ next. (state : F.State)
+            → F.Tells self.follower state
+            → IfSome next (ComesTo F.Tells (take_line F.after (reading_at self state) (line_of line.entry)))) }
     {
-        let role = role_of(line);
+        let role = role_of(&line);
         let Some(place) = self.place.next(role) else {
             return Ok(None);
         };
@@ -73,13 +80,18 @@ impl<F: Follower + Drop> Body<F> {
     /// With the text of one line more.
     #[tactic(auto, unfolding(crate::specs::Bodies::step))]
     fn with_text(self, alloc: Global, text: &[u8]) -> Result<Option<Body<F>>, NoMemory>
-        ensures { IfOk result (Takes F.state (step F.after (reading_of F.state self) text.now)) }
+        ensures takes { IfOk result (Takes (step no_state (standing self) text.now)) }
+        ensures tells { IfOk result
+            (λ next. (state : F.State)
+            → F.Tells self.follower state
+            → IfSome next (ComesTo F.Tells (step F.after (reading_at self state) text.now))) }
     {
+        a_text_spells_one_line();
         if !is_printable(text) {
             return Ok(None);
         }
         match read_line(alloc, text)? {
-            Some(line) => self.with_line(alloc, &line),
+            Some(line) => self.with_line(alloc, line),
             None => Ok(None),
         }
     }
@@ -87,7 +99,9 @@ impl<F: Follower + Drop> Body<F> {
     /// The follower, where a life has ended.
     #[tactic(auto, unfolding(crate::specs::Bodies::given))]
     fn end(self) -> Option<F>
-        ensures { option_map F.state result ≡ given (reading_of F.state self) }
+        ensures none { IfNone result (given (standing self) ≡ None) }
+        ensures same { IfSome result (λ f. f ≡ self.follower) }
+        ensures some { IfSome result (λ _. (state : F.State) → given (reading_at self state) ≡ Some state) }
     {
         match self.place {
             Place::Between(_) => Some(self.follower),
@@ -103,8 +117,11 @@ fn take_lines<F: Follower + Drop>(
     start: Body<F>,
     text: &[u8],
 ) -> Result<F, BodyAnswer>
-    ensures gives { IfOk result (λ f. Gives (step F.after) given (reading_of F.state start) text.now (F.state f)) }
-    ensures stops { IfErr result (StopsIn F.after (reading_of F.state start) text.now) }
+    ensures gives { IfOk result
+        (λ f. (state : F.State)
+        → F.Tells start.follower state
+        → Reaches F.Tells (Gives (step F.after) given (reading_at start state) text.now) f) }
+    ensures stops { IfErr result (StopsIn no_state (standing start) text.now) }
 {
     let mut state = start;
     let mut rest = text;
@@ -134,7 +151,10 @@ pub fn follow_body<F: Follower + Drop>(
     follower: F,
     text: &[u8],
 ) -> Result<F, BodyAnswer>
-    ensures found { IfOk result (λ end. IsFollowed F.after text.now (F.state follower) (F.state end)) }
+    ensures found { IfOk result
+        (λ end. (state : F.State)
+        → F.Tells follower state
+        → Reaches F.Tells (IsFollowed F.after text.now state) end) }
     ensures bad { IfErr result (λ answer. IsNoBody text.now answer) }
 {
     let start = Body {

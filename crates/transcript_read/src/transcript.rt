@@ -3,6 +3,7 @@ ghost use Rattle.std.specs.Prelude.{IfErr, IfOk, Ok, map};
 ghost use Rattle.net_types.specs.TextLines.{AreLines};
 ghost use Rattle.conf_text.specs.Configurations.{IsConfOf};
 ghost use Rattle.conf_text.specs.Contents.{configuration};
+ghost use Rattle.transcript_read.specs.Following.{IsRead, Reaches};
 ghost use Rattle.transcript_read.specs.Heads.{Comes, IsFaulty, SpellsConfigured, SpellsNoticed, HaltsBy, end_of_body, end_of_told, notice_words};
 ghost use Rattle.transcript_read.specs.Whole.{IsFollowedWhole, IsNoTranscript, TranscriptsAreOne};
 
@@ -45,9 +46,10 @@ fn follow_noticed<F: Follower + Drop>(
     conf: Conf,
     text: &[u8],
 ) -> Result<F, TranscriptAnswer>
+    requires { IsRead (configuration conf) }
     ensures found { IfOk result
-        (λ end. Comes (SpellsNoticed (configuration conf).notices) (end_of_body F.first F.after (configuration conf))
-        text.now (F.state end)) }
+        (Reaches F.Tells (Comes (SpellsNoticed (configuration conf).notices)
+        (end_of_body F.first F.after (configuration conf)) text.now)) }
     ensures bad { IfErr result
         (λ answer. AreLines (map notice_words (configuration conf).notices)
         → HaltsBy (SpellsNoticed (configuration conf).notices) text.now answer) }
@@ -69,8 +71,7 @@ fn follow_noticed<F: Follower + Drop>(
 
 /// Follows what stands after the first line.
 fn follow_configured<F: Follower + Drop>(alloc: Global, text: &[u8]) -> Result<F, TranscriptAnswer>
-    ensures found { IfOk result
-        (λ end. Comes SpellsConfigured (end_of_told F.first F.after) text.now (F.state end)) }
+    ensures found { IfOk result (Reaches F.Tells (Comes SpellsConfigured (end_of_told F.first F.after) text.now)) }
     ensures bad { IfErr result (λ answer. HaltsBy SpellsConfigured text.now answer) }
 {
     let lines = conf_lines(alloc, text)?;
@@ -95,7 +96,7 @@ pub fn follow_transcript<F: Follower + Drop>(
     alloc: Global,
     text: &[u8],
 ) -> Result<F, TranscriptAnswer>
-    ensures found { IfOk result (λ end. IsFollowedWhole F.first F.after text.now (F.state end)) }
+    ensures found { IfOk result (Reaches F.Tells (IsFollowedWhole F.first F.after text.now)) }
     ensures bad { IfErr result (λ answer. IsNoTranscript text.now answer) }
 {
     a_text_spells_one_line();

@@ -16,9 +16,14 @@ returns-in-Err-clause-bad g c =
 pub returns-in-Ok-follow_noticed-clause-found : goal.returns-in-Ok-follow_noticed-clause-found
 returns-in-Ok-follow_noticed-clause-found g c =
     let same : c.deref.result.now ≡ c.in_ok-lines.lines.text.items = search rules in
-    noticed_comes g.F.Follower.first g.F.Follower.after (configuration c.in-Ok.conf) c.args.text.now c.in_ok-lines.lines.text.items
-    c.in_ok-lines.lines.rest.now c.in_ok-lines.lines.line (g.F.Follower.state c.in-Ok-follow_noticed.end) c.in_ok-lines.ensures
-    (subst (λ text. IsConfOf text (Ok (configuration c.in-Ok.conf))) same c.in-Ok.ensures.found) c.in-Ok-follow_noticed.ensures.found
+    let reached = c.in-Ok-follow_noticed.ensures.found in
+    record {
+      state = reached.state;
+      comes = noticed_comes g.F.Follower.first g.F.Follower.after (configuration c.in-Ok.conf) c.args.text.now c.in_ok-lines.lines.text.items
+          c.in_ok-lines.lines.rest.now c.in_ok-lines.lines.line reached.state c.in_ok-lines.ensures
+          (subst (λ text. IsConfOf text (Ok (configuration c.in-Ok.conf))) same c.in-Ok.ensures.found) reached.comes;
+      tells = reached.tells;
+    }
 
 pub overflow_add-result : goal.overflow_add-result
 overflow_add-result g c =

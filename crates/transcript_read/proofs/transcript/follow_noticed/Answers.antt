@@ -1,6 +1,5 @@
 use Rattle.std.proofs.Common.{rules, subst, refl}
 use Rattle.conf_text.specs.Contents.{configuration}
-use Rattle.transcript_read.specs.Bodies.{IsFollowed}
 use Rattle.transcript_read.specs.Heads.{AreNoticed, LacksNotice}
 use Rattle.transcript_read.proofs.EndLaws.{first_body}
 use Rattle.transcript_read.proofs.HeadLaws.{notice_halts, noticed_within}
@@ -20,11 +19,14 @@ overflow_add-result g c =
 
 pub returns-in-Ok-follow_body-clause-found : goal.returns-in-Ok-follow_body-clause-found
 returns-in-Ok-follow_body-clause-found g c =
-    body_comes g.F.Follower.first g.F.Follower.after (configuration c.args.conf) c.args.text.now c.in-Ok.after.0.now c.in-Ok.after.1
-    (g.F.Follower.state c.in-Ok-follow_body.end)
-    (subst (λ notices. AreNoticed notices c.args.text.now c.in-Ok.after.0.now c.in-Ok.after.1) c.notices.ensures c.in-Ok.ensures.found)
-    (subst (λ first. IsFollowed g.F.Follower.after c.in-Ok.after.0.now first (g.F.Follower.state c.in-Ok-follow_body.end)) c.in_ok-follower.ensures
-    c.in-Ok-follow_body.ensures.found)
+    let reached = c.in-Ok-follow_body.ensures.found _ c.in_ok-follower.ensures in
+    record {
+      state = reached.state;
+      comes = body_comes g.F.Follower.first g.F.Follower.after (configuration c.args.conf) c.args.text.now c.in-Ok.after.0.now c.in-Ok.after.1 reached.state
+          (subst (λ notices. AreNoticed notices c.args.text.now c.in-Ok.after.0.now c.in-Ok.after.1) c.notices.ensures c.in-Ok.ensures.found)
+          reached.comes;
+      tells = reached.tells;
+    }
 
 pub returns-in-Err-Bad-clause-bad : goal.returns-in-Err-Bad-clause-bad
 returns-in-Err-Bad-clause-bad g c = λ each.

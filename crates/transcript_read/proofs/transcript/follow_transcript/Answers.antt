@@ -21,8 +21,13 @@ overflow_add-result g c =
 pub returns-in-Ok-clause-found : goal.returns-in-Ok-clause-found
 returns-in-Ok-clause-found g c =
     let same : bytes_eq c.in-Some.first.now (codes "dhcpcd-transcript 1") ≡ true = search rules in
-    configured_whole g.F.Follower.first g.F.Follower.after c.args.text.now c.in-Some.first.now c.in-Some.rest.now (g.F.Follower.state c.in-Ok.end)
-    c.in-Some.ensures same c.in-Ok.ensures.found
+    let reached = c.in-Ok.ensures.found in
+    record {
+      state = reached.state;
+      comes = configured_whole g.F.Follower.first g.F.Follower.after c.args.text.now c.in-Some.first.now c.in-Some.rest.now reached.state c.in-Some.ensures same
+          reached.comes;
+      tells = reached.tells;
+    }
 
 pub returns-in-Err-Bad-clause-bad : goal.returns-in-Err-Bad-clause-bad
 returns-in-Err-Bad-clause-bad g c =
