@@ -1,0 +1,3 @@
+mod HostLaws
+mod ReadLaws
+mod OpenedLaws
