@@ -1,5 +1,5 @@
 -- The judges of an interface tell each kind of basis.
-use Rattle.std.proofs.Common.{◌≡◌, ◌⊎◌, inl, inr, Bool, true, ◌||◌, List}
+use Rattle.std.proofs.Common.{◌≡◌, inl, inr, Bool, true, ◌||◌, List}
 use Rattle.std.proofs.lemmas.Bool.{or_cases, or_left, or_right}
 use Rattle.net_types.specs.declared.address.Net.{Net}
 use Rattle.evidence_words.specs.Entries.{Entry}

@@ -1,7 +1,6 @@
 -- An address is told to be one out of a prefix that the Replies gave.
-use Rattle.std.proofs.Common.{◌≡◌, ℕ, zero, suc, ◌+◌, ◌-◌, ◌*◌, ◌%◌, ◌^◌, ◌<◌, ◌≤◌, ◌⊎◌, inl, inr, Bool, true, false, ◌&&◌, ◌||◌, List, [], ◌∷◌, Option, Some, None, refl, sym, ap, subst, ◌∙◌, arith}
-use Rattle.std.specs.List.{list_any}
-use Rattle.std.specs.Prelude.{nat_le, nat_lt, if◌then◌else◌}
+use Rattle.std.proofs.Common.{◌≡◌, ℕ, zero, suc, ◌+◌, ◌-◌, ◌*◌, ◌%◌, ◌^◌, ◌<◌, ◌≤◌, ◌⊎◌, inl, inr, Bool, true, false, List, [], ◌∷◌, Some, None, refl, sym, ap, subst, ◌∙◌, arith}
+use Rattle.std.specs.Prelude.{if◌then◌else◌}
 use Rattle.std.proofs.Math.Nat.{mul-mod_left}
 use Rattle.std.proofs.lemmas.Bool.{and_parts, and_from, or_cases, or_left, or_right}
 use Rattle.machine.specs.Since.{Since}
@@ -10,13 +9,12 @@ use Rattle.net_types.specs.declared.address.Net.TheVariants.{V4, V6}
 use Rattle.net_types.specs.declared.address.Net6.{Net6}
 use Rattle.net_types.specs.declared.interface.IfIndex.{IfIndex}
 use Rattle.prefix_share.specs.Subnets.{address_count, has_room, network_number, subnet_in, subnet_of}
-use Rattle.prefix_share.specs.declared.share.Share.{Share}
 use Rattle.settings.specs.declared.dhcp6_conf.ShareConf.{ShareConf}
 use Rattle.v6_options.specs.declared.ia.IaKind.{IaKind}
 use Rattle.v6_options.specs.declared.ia.IaKind.TheVariants.{Pd}
 use Rattle.v6_options.specs.declared.ia.ItemSaid.{ItemSaid}
 use Rattle.v6_client.specs.declared.settings.IaAsk.{IaAsk}
-use Rattle.v6_client_laws.specs.GivenItems.{IsCleared, IsHeldAs, MayBeHeld}
+use Rattle.v6_client_laws.specs.GivenItems.{IsHeldAs, MayBeHeld}
 use Rattle.v6_client_laws.proofs.Given.{met}
 use Rattle.client_model.specs.WantedRows.{first_address}
 use Rattle.evidence_words.specs.Entries.{Entry}
@@ -24,7 +22,7 @@ use Rattle.evidence_words.specs.IfaceLives.{now_in}
 use Rattle.evidence_words.specs.Inputs.{Site}
 use Rattle.evidence.specs.ShareBasis.{ShareBasisOf}
 use Rattle.lease6_evidence.specs.KeptBasis6.{KeptBasis6}
-use Rattle.lease6_judge.specs.HeardBasis.{HasItem, HeardBasis, HeardItem, Spares}
+use Rattle.lease6_judge.specs.HeardBasis.{HeardBasis, HeardItem, Spares}
 use Rattle.item_judge.specs.Judging.{is_delegated}
 use Rattle.item_judge.proofs.Giving.{prefixes_delegated}
 use Rattle.kept_judge.proofs.Lists.{has_any}
@@ -103,7 +101,8 @@ module _ (prefix : Net6) (share : ShareConf) (subnet net : Net6) where
       → net.ip.number - 1 - added ≡ prefix.ip.number
   number_is is gives cleared =
       ap (λ (n : Net6). n.ip.number - 1 - added)
-      (same_address net (first_address subnet) gives ∙ ap first_address (sym (by_room (has_room prefix.len share.share) (subnet_of prefix share.share) subnet is)))
+      (same_address net (first_address subnet) gives
+      ∙ ap first_address (sym (by_room (has_room prefix.len share.share) (subnet_of prefix share.share) subnet is)))
       ∙ taken_off (network_number prefix) added ∙ cleared
 
   prefix_is : subnet_in prefix share.share ≡ Some subnet → V6 net ≡ V6 (first_address subnet) → network_number prefix ≡ prefix.ip.number

@@ -1,3 +1,4 @@
 pub mod HeardShares
 pub mod Joined
 pub mod Laws
+pub mod Among

@@ -1,5 +1,6 @@
 //! The laws on what the judges of an interface tell. These functions do nothing: their contracts are the laws.
 
+ghost use Rattle.iface_judge.specs.Among.{AllAreTold};
 ghost use Rattle.iface_judge.specs.Laws.{OwnAddressesAreTold, SharedAddressesAreTold};
 
 /// Law: an address rests on what its interface showed exactly where it has its basis there: as a static address, as a
@@ -12,4 +13,9 @@ pub fn own_addresses_are_told()
 /// 3633, section 12.1), which the Replies give or a kept lease.
 pub fn shared_addresses_are_told()
     ensures { SharedAddressesAreTold }
+{}
+
+/// Law: so at one managed interface or another exactly where it has its basis at one of them.
+pub fn all_addresses_are_told()
+    ensures { AllAreTold }
 {}

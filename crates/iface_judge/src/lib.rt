@@ -3,4 +3,4 @@
 
 mod laws;
 
-pub use laws::{own_addresses_are_told, shared_addresses_are_told};
+pub use laws::{all_addresses_are_told, own_addresses_are_told, shared_addresses_are_told};
