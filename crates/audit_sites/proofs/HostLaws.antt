@@ -11,7 +11,8 @@ use Rattle.conf_text.specs.Fits.{FitsSpec, SettingsFit}
 use Rattle.conf_text.specs.Settings.{managed_of}
 use Rattle.audit_sites.specs.Hosts.{IsRead}
 
-pub managed_fit : (result : Result (Vec Managed) NoMemory) (conf : Configuration) (specs : List IfSpec) → SettingsFit → IsRead conf → AllByRecursion FitsSpec specs
+pub managed_fit : (result : Result (Vec Managed) NoMemory) (conf : Configuration) (specs : List IfSpec) → SettingsFit → IsRead conf
+    → AllByRecursion FitsSpec specs
     → IfOk result (λ all. all.items ≡ managed_of conf specs) → IfOk result (λ all. AreManaged all.items)
 managed_fit (Ok all) conf specs law read each is = subst AreManaged (sym is) (law read.text conf read.is specs each).fit
 managed_fit (Err e) conf specs law read each is = tt

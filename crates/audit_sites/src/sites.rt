@@ -55,7 +55,8 @@ fn file_of(alloc: Global, name: &Name, end: &[u8]) -> Result<Vec<u8>, NoMemory>
 
 /// The bytes of a file, where it was read.
 fn text_of(reading: Option<&FileReading>) -> Option<&[u8]>
-    ensures { option_map (λ t. t.now) result ≡ option_and_then text_read (option_map (λ r. reading_of r.now) reading.entry) }
+    ensures { option_map (λ t. t.now) result
+        ≡ option_and_then text_read (option_map (λ r. reading_of r.now) reading.entry) }
 {
     match reading {
         Some(FileReading::Found(bytes)) => Some(bytes.as_slice()),
