@@ -131,7 +131,10 @@ module _ {J : Type 0} (Tells : Telling J) where
       → after.count ≡ min (before.count + 1) 18446744073709551615
       → Courses Tells (courses.Within after) (Some (turned at event bytes living)) (unjust_in judge life (Some living))
   found_none judge before after life living at event bytes lacks is sites tell count =
-      subst (λ (o : Option HostRow). Courses Tells (courses.Within after) (Some (turned at event bytes living)) (option_map (unjust_at life (length living.past)) o)) lacks
+      subst
+      (λ (o : Option HostRow). Courses Tells (courses.Within after) (Some (turned at event bytes living))
+      (option_map (unjust_at life (length living.past)) o))
+      lacks
       (record {
         past_one = tt;
         is_seated = record {

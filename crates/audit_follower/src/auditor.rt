@@ -73,7 +73,8 @@ impl<J: Judge + Drop> Auditor<J> {
 
     /// With the number of a life.
     fn numbered(self, number: u64) -> Auditor<J>
-        ensures { (kept : Auditing) → Audits J.Tells self kept → Audits J.Tells result (record kept { lives = number }) }
+        ensures { (kept : Auditing) → Audits J.Tells self kept
+            → Audits J.Tells result (record kept { lives = number }) }
     {
         let Auditor {
             known,
