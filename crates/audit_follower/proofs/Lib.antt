@@ -1,0 +1,4 @@
+mod ResultLaws
+mod LineLaws
+mod CourseLaws
+mod AuditLaws
