@@ -5,3 +5,4 @@ pub mod Parted
 pub mod Turned
 pub mod Giving
 pub mod OwnWalks
+mod Replied

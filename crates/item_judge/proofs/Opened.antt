@@ -161,7 +161,7 @@ from_named named servers None names = refl
 from_named named servers (Some server) names = ap (λ (b : Bool). is_duid server && b) (names server)
 
 module _ (site : Site) (answered : ℕ) where
-  good_is : (asking : AskingContent) (opened : Numbered6) (message : Content6) → IsOpen answered asking opened
+  pub good_is : (asking : AskingContent) (opened : Numbered6) (message : Content6) → IsOpen answered asking opened
       → is_good site asking message ≡ (answers site opened.exchange message && serves (asks_at site) message)
   good_is asking opened message is =
       ap (λ (x : ℕ).

@@ -6,3 +6,4 @@ pub mod Walks
 pub mod Telling
 pub mod Turns
 pub mod Judging
+pub mod Replying

@@ -6,10 +6,13 @@ ghost use Rattle.std.specs.Option.{option_map};
 ghost use Rattle.client_model.specs.ClientSettings6.{ask_for};
 ghost use Rattle.evidence_words.specs.Entries as told;
 ghost use Rattle.evidence_words.specs.Inputs as inputs;
+ghost use Rattle.lease6_evidence.specs.Exchanges6.{seen6_in};
+ghost use Rattle.lease6_evidence.specs.Replies6.{message6_at};
 ghost use Rattle.audit_words.specs.Shown.{entry_shown, offer_shown, site_shown};
 ghost use Rattle.item_judge.specs.Asking as states;
 ghost use Rattle.item_judge.specs.Judging.{AreTurned, Tells, TellsTables, holds_address, holds_prefix, is_delegated, is_given, is_na, is_pd, offers_next};
 ghost use Rattle.item_judge.specs.Kept.{asking_content, heard_content};
+ghost use Rattle.item_judge.specs.Replying.{has_good};
 
 use crate::asking::{Asking, said_next};
 use crate::heard::{Heard, carrier_after, heard_by, message6_at, reported_at, stays};
@@ -194,6 +197,18 @@ impl ItemJudge {
             asking: with_answer(heard, asking),
             tables: tables_turned(alloc, self.tables, &turn)?,
         })
+    }
+
+    /// Whether a good Reply comes in a turn, in the exchange that is open after the turns so far.
+    pub fn has_reply(&self, alloc: Global, site: &Site, entry: &Entry) -> Result<bool, NoMemory>
+        ensures { IfOk result
+            (λ replied. (past : List told.Entry) → Tells self.now (site_shown site.now) past
+            → replied
+            ≡ has_good (site_shown site.now) (seen6_in (site_shown site.now) past).current
+            (message6_at (site_shown site.now) (entry_shown entry.now))) }
+    {
+        let heard = heard_by(alloc, site, &self.asking, message6_at(site, entry))?;
+        Ok(heard.is_some())
     }
 
     /// Whether the interface holds a net at a moment as an address of an IA_NA that it asks for.

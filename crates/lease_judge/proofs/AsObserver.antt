@@ -84,3 +84,7 @@ granted_same site past = ap (λ (judge : Judge). judge.granted) (judge_same site
 -- and its carrier is the interface's
 pub carrier_same : (site : Site) (past : List Entry) → (judge_in site past).up ≡ has_carrier site past
 carrier_same site past = ap (λ (judge : Judge). judge.up) (judge_same site past)
+
+-- and its exchanges are those that the interface opened
+pub seen_same : (site : Site) (past : List Entry) → (judge_in site past).seen ≡ seen_in site past
+seen_same site past = ap (λ (judge : Judge). judge.seen) (judge_same site past)

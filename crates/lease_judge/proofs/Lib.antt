@@ -6,3 +6,4 @@ pub mod LeasesTold
 mod ShownMessages
 mod TurnsTold
 mod ProbesHeld
+mod AnswersTold

@@ -5,3 +5,4 @@ pub mod Laws
 pub mod Watched
 pub mod Probes
 pub mod Turns
+pub mod Answers

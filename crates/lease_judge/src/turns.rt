@@ -6,14 +6,16 @@ ghost use Rattle.net_types.specs.Moments.{IsMoment};
 ghost use Rattle.v4_client.specs.Settings.{settings_content};
 ghost use Rattle.v4_frames.specs.Heard.{heard_shown};
 ghost use Rattle.evidence_words.specs.Entries as told_entries;
+ghost use Rattle.lease_evidence.specs.Exchanges.{messages_at, seen_in};
 ghost use Rattle.lease_evidence.specs.Replies.{arrival_in, message_on, reply_by};
 ghost use Rattle.audit_words.specs.Shown.{FitsSite, entry_shown, site_shown};
+ghost use Rattle.lease_judge.specs.Answers.{answer_by, answer_in};
 ghost use Rattle.lease_judge.specs.Leased.{is_leased};
 ghost use Rattle.lease_judge.specs.Turns.{Tells};
-ghost use Rattle.lease_judge.specs.Watched.{HasMoments, hears_by, judge_shown};
+ghost use Rattle.lease_judge.specs.Watched.{HasMoment, HasMoments, hears_by, judge_shown, seen_shown};
 
 use crate::probes::LeaseProbes;
-use crate::watch::Watch;
+use crate::watch::{Seen, Watch};
 use audit_words::{Entry, Site};
 use iface_core::settings_of;
 use net_types::{Net, NoMemory};
@@ -21,7 +23,7 @@ use own_frames4::messages_of;
 use std::alloc::Global;
 use std::marker::Model;
 use v4_client::{Answer4, Arrival4, Exchange4, Set4, reply_in};
-use v4_frames::{Heard4, heard4_of};
+use v4_frames::{Heard4, Sent4, heard4_of};
 use world::Event;
 
 /// A judge of the leases of one interface: the settings of its client, what is kept of its turns, and of the addresses
@@ -112,6 +114,26 @@ fn heard(
     Ok(watch.told(opened, answer))
 }
 
+/// What the input of a turn says in the exchange that is open.
+fn answer_in(
+    alloc: Global,
+    set: &Set4,
+    site: &Site,
+    entry: &Entry,
+    seen: &Seen,
+) -> Result<Answer4, NoMemory>
+    requires { HasMoment seen.now }
+    ensures { IfOk result
+        (λ answer. answer
+        ≡ answer_by (settings_content set.now) (site_shown site.now) (entry_shown entry.now)
+        (seen_shown seen.now).current) }
+{
+    let Some(opened) = seen.current else {
+        return Ok(Answer4::Nothing);
+    };
+    reply_to(alloc, set, site, entry, opened.exchange)
+}
+
 impl LeaseJudge {
     /// Before all turns.
     #[tactic(auto, using(crate::proofs::ProbesHeld::none_held))]
@@ -146,6 +168,32 @@ impl LeaseJudge {
             watch,
             probes,
         })
+    }
+
+    /// The interface's own DHCPv4 messages of a turn.
+    #[tactic(auto, using(crate::proofs::AnswersTold::messages_so))]
+    pub fn messages(
+        &self,
+        alloc: Global,
+        site: &Site,
+        entry: &Entry,
+    ) -> Result<Vec<Option<Sent4>>, NoMemory>
+        ensures { IfOk result
+            (λ messages. (past : List told_entries.Entry) → Tells self.now (site_shown site.now) past
+            → messages.items ≡ messages_at (site_shown site.now) (entry_shown entry.now)) }
+    {
+        messages_of(alloc, &site.managed, &self.set.ask, &entry.offers)
+    }
+
+    /// What a server says in a turn, in the exchange that is open after the turns so far (RFC 2131, section 3.2).
+    #[tactic(auto, using(crate::proofs::AnswersTold::answer_so))]
+    pub fn answer(&self, alloc: Global, site: &Site, entry: &Entry) -> Result<Answer4, NoMemory>
+        ensures { IfOk result
+            (λ answer. (past : List told_entries.Entry) → Tells self.now (site_shown site.now) past
+            → answer
+            ≡ answer_in (site_shown site.now) (entry_shown entry.now) (seen_in (site_shown site.now) past).current) }
+    {
+        answer_in(alloc, &self.set, site, entry, &self.watch.seen)
     }
 
     /// Whether an address has its basis as a leased one at a moment in milliseconds since 1970.
