@@ -19,7 +19,7 @@ use Rattle.audit_follower.specs.declared.seated.Seated.{Seated}
 use Rattle.audit_sites.specs.declared.opening.Opening.{Opening}
 use Rattle.audit_turns.specs.Goings.{Going, GoesOn, going_in, is_read}
 use Rattle.audit_sites.specs.Reads.{reads_of}
-use Rattle.audit_follower.specs.Holding.{Courses, is_found, with_read, GoesOnIn, IsPastOne, IsSeated, counted}
+use Rattle.audit_follower.specs.Holding.{Courses, Finds, is_found, with_read, GoesOnIn, IsPastOne, IsSeated, counted}
 use Rattle.audit_sites.specs.Openings.{Opens}
 use Rattle.audit_seats.specs.Seats.{AllTell, Telling, sites_of}
 
@@ -276,3 +276,18 @@ module _ {J : Type 0} (Tells : Telling J) where
     tell = subst (λ (past : List Entry). AllTell Tells past seated.watched.items) (sym opens.first) tell;
     count = count ∙ ap (λ (past : List Entry). counted (length past)) (sym opens.first);
   }
+
+  -- what was found
+
+  pub finds_found : (found : code.Unjust) (living : Option Living) (unjust : Option Unjust) → Courses Tells (courses.Found found) living unjust
+      → Finds (Some found) unjust
+  finds_found found living None is = absurd (none_found found living is)
+  finds_found found living (Some unjust) is = is
+
+  between_finds : (unjust : Option Unjust) → Courses Tells courses.Between None unjust → Finds None unjust
+  between_finds None is = tt
+  between_finds (Some unjust) is = is
+
+  pub finds_none : (course : Course J) (living : Option Living) (unjust : Option Unjust) → is_found course ≡ false
+      → Courses Tells course living unjust → Finds None unjust
+  finds_none course living unjust other is = between_finds unjust (between_ended course living unjust other is)

@@ -43,6 +43,12 @@ pub record IsFound (found : code.Unjust) (unjust : Unjust) : Type 0 where
   pub turn : found.turn ≡ counted unjust.turn
   pub row : found.row ≡ unjust.row
 
+-- so where something was found at all
+abbrev pub Finds : Option code.Unjust → Option Unjust → Type 0
+Finds None None = Unit {0}
+Finds (Some found) (Some unjust) = IsFound found unjust
+Finds found unjust = ⊥
+
 abbrev pub is_found : {J : Type 0} → Course J → Bool
 is_found (courses.Found found) = true
 is_found course = false

@@ -8,10 +8,11 @@ ghost use Rattle.transcript_lines.specs.Contents.{line_of, reading_of};
 ghost use Rattle.audit_model.specs.Auditing.{Auditing, after, first, with_line};
 ghost use Rattle.audit_sites.specs.Hosts.{IsRead};
 ghost use Rattle.audit_turns.specs.Goings.{is_read};
-ghost use Rattle.audit_follower.specs.Holding.{Audits};
+ghost use Rattle.audit_follower.specs.Holding.{Audits, Finds};
 ghost use Rattle.audit_seats.specs.Tests.{judged_by};
 
 use crate::course::Course;
+use crate::unjust::Unjust;
 use audit_seats::Judge;
 use audit_sites::{Known, Managing, Opening};
 use audit_turns::{Going, what_goes_on_is_the_lifes};
@@ -234,6 +235,17 @@ impl<J: Judge + Drop> Auditor<J> {
             going: going.told(alloc, line)?,
             course,
         })
+    }
+
+    /// The first address without basis, where one was shown.
+    #[tactic(auto, using(crate::proofs::CourseLaws::finds_found, crate::proofs::CourseLaws::finds_none))]
+    pub fn found(&self) -> Option<Unjust>
+        ensures { (kept : Auditing) → Audits J.Tells self.now kept → Finds result kept.unjust }
+    {
+        match &self.course {
+            Course::Found(unjust) => Some(*unjust),
+            Course::Between | Course::Opening(_) | Course::Within(_) => None,
+        }
     }
 
     /// With a line more.
