@@ -240,7 +240,8 @@ module _ (world : World) (fits : FitsWorld world) where
       record {
         answer = tt;
         left = with_host_fit world _ fits (record {
-          rows = gated AreRows done (applied change rows) rows (applied_fits change rows (changed_row change done ask typed) fits.others.host.rows) fits.others.host.rows;
+          rows = gated AreRows done (applied change rows) rows (applied_fits change rows (changed_row change done ask typed) fits.others.host.rows)
+              fits.others.host.rows;
           order = gated InRowOrder done (applied change rows) rows (applied_order change rows fits.others.host.order) fits.others.host.order;
         });
       }

@@ -319,7 +319,8 @@ module _ (ifaces : List Iface) where
   kept_goes file is =
       let wanted : Option (List ℕ) = wanted_in ifaces file.keeps in
       let known_then : Bool → Asks KeptFile = λ done. Done (record file { known = known_after wanted done }) in
-      gated (λ (asks : Asks KeptFile). Goes IsKeptFile asks) (is_settled file.keeps file.known wanted) (Done file) (after (bringing file.name wanted) known_then)
+      gated (λ (asks : Asks KeptFile). Goes IsKeptFile asks) (is_settled file.keeps file.known wanted) (Done file)
+      (after (bringing file.name wanted) known_then)
       is
       (goes_after Any IsKeptFile (bringing file.name wanted) known_then (bringing_goes file.name wanted is.name)
       (λ done any. record { name = is.name }))

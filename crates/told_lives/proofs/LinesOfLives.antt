@@ -309,6 +309,7 @@ module _ (managed : List Managed) (specs : List IfSpec) (fit : AreManaged manage
       let turns : TurnsWent opened.result mets (told_after managed opened.result opened.world opened.world.link.told.coming) =
       turns_went opened.world.link.told.coming opened.result opened.world went.result.fits went.left went.left.link.coming (typed_mets held mets whole.1) in
       record {
-        told = life_told opening (record { begin = devices.link.begin; calls = went.calls; life = went.result.fits; now = went.result.now }) mets turns.all typed;
+        told = life_told opening (record { begin = devices.link.begin; calls = went.calls; life = went.result.fits; now = went.result.now }) mets turns.all
+            typed;
         left = turns.devices.others;
       }
