@@ -16,14 +16,18 @@ OwnTest = Site → Net → List Entry → Bool
 abbrev pub ShareTest : Type 0
 ShareTest = Site → ℕ → Net → List Entry → Bool
 
-abbrev pub rests_at : OwnTest → ShareTest → ℕ → Net → List Entry → Site → Bool
-rests_at own shared index net past site =
-    ((index_at site == index) && own site net past) || shared site index net past
+-- an address on one interface, by the number of another or of itself: its own address, or a share of its prefixes
+abbrev pub rests_on : OwnTest → ShareTest → (number index : ℕ) → Net → List Entry → Site → Bool
+rests_on own shared number index net past site =
+    ((number == index) && own site net past) || shared site index net past
 
--- an address rests on them where it does so at some managed interface
+abbrev pub rests_at : OwnTest → ShareTest → ℕ → Net → List Entry → Site → Bool
+rests_at own shared index net past site = rests_on own shared (index_at site) index net past site
+
+-- an address rests on them where it does so at some managed interface, whatever site that has
 abbrev pub judged_by : OwnTest → ShareTest → Judge
 judged_by own shared managed sites past index net =
-    list_any (λ m. rests_at own shared index.number net past (sites m)) managed
+    list_any (λ m. rests_on own shared m.spec.index.number index.number net past (sites m)) managed
 
 -- the same of a row, over the interfaces themselves: a route needs nothing
 abbrev pub row_rests : OwnTest → ShareTest → List Site → List Entry → HostRow → Bool

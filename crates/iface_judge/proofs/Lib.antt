@@ -1,3 +1,5 @@
 pub mod Owning
-pub mod Sharing
+pub mod SharesTold
 pub mod Among
+mod KeptTurns
+mod ShareLoops

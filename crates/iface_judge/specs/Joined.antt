@@ -22,11 +22,16 @@ is_kept site net past = is_kept4 site net (now_in past) past || is_kept_address6
 abbrev pub is_granted : Site → Net → List Entry → Bool
 is_granted site net past = is_leased site net (now_in past) past || is_given site net (now_in past) past
 
+abbrev pub has_lease : Site → Net → List Entry → Bool
+has_lease site net past = is_granted site net past || is_kept site net past
+
+-- without a lease: as a static address, or as a link-local one
+abbrev pub stands : Site → Net → List Entry → Bool
+stands site net past = statics.gives_in site net past || local.gives_in site net past
+
 -- on the interface itself, at the moment of the last turn
 abbrev pub is_own : Site → Net → List Entry → Bool
-is_own site net past =
-    (statics.gives_in site net past || local.gives_in site net past)
-    || (is_granted site net past || is_kept site net past)
+is_own site net past = stands site net past || has_lease site net past
 
 abbrev pub of_number : ℕ → IfIndex
 of_number number = record { number = number }

@@ -131,7 +131,7 @@ module _ (upstream : Site) (index : IfIndex) (net : Net6) (past : List Entry) wh
   at_or_below : (n k : ℕ) → n < suc k → (n ≡ k) ⊎ (n < k)
   at_or_below n k less = grind arith
 
-  some_of : (share : ShareConf) (len below : ℕ) → len < below → one_of (prefix_by net share len) ≡ true
+  pub some_of : (share : ShareConf) (len below : ℕ) → len < below → one_of (prefix_by net share len) ≡ true
       → is_of_some upstream index net past share below ≡ true
   some_of share len zero less h = absurd (omega (arith, less))
   some_of share len (suc below) less h = elim (at_or_below len below less) [
