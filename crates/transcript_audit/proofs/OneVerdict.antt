@@ -14,7 +14,7 @@ use Rattle.transcript_audit.specs.declared.verdict.Verdict.TheVariants as verdic
 use Rattle.transcript_audit.specs.Laws.{AVerdictIsOne}
 use Rattle.transcript_audit.specs.Verdicts.{HasBasisShown, IsJudged, NamesBad}
 use Rattle.transcript_audit.proofs.BadLines.{bad_line_once}
-use Rattle.transcript_audit.proofs.JudgedTexts.{test, test_decides}
+use Rattle.transcript_audit.proofs.JudgedTexts.{test}
 
 module _ (law : AllAreTold) (texts : TranscriptsAreOne) (text : List ℕ) where
   yes_once : (lives turns more others : ℕ) → IsYes HasBasisShown text lives turns → IsYes HasBasisShown text more others
@@ -26,16 +26,16 @@ module _ (law : AllAreTold) (texts : TranscriptsAreOne) (text : List ℕ) where
       ap (λ n. verdicts.Yes n turns) lives_same ∙ ap (λ n. verdicts.Yes more n) turns_same
 
   never_both : (lives turns life turn : ℕ) (row : HostRow) → IsYes HasBasisShown text lives turns → IsNo HasBasisShown text life turn row → ⊥
-  never_both lives turns life turn row yes no =
-      let same = texts text yes.told no.told yes.spelled no.spelled in
-      let one : HasOneVerdict HasBasisShown no.told = has_one test HasBasisShown (test_decides law) no.told no.spelled.spells.spells.fits in
-      one.one life turn row (subst (λ told. Justified HasBasisShown told) same yes.just) no.first
+  never_both lives turns life turn row a b =
+      let same = texts text a.told b.told a.spelled b.spelled in
+      let one : HasOneVerdict HasBasisShown b.told = has_one test HasBasisShown law b.told b.spelled.spells.spells.fits in
+      one.one life turn row (subst (λ told. Justified HasBasisShown told) same a.just) b.first
 
   no_once : (life turn number count : ℕ) (row other : HostRow) → IsNo HasBasisShown text life turn row → IsNo HasBasisShown text number count other
       → verdicts.No life turn row ≡ verdicts.No number count other
   no_once life turn number count row other a b =
       let same = texts text a.told b.told a.spelled b.spelled in
-      let one : HasOneVerdict HasBasisShown b.told = has_one test HasBasisShown (test_decides law) b.told b.spelled.spells.spells.fits in
+      let one : HasOneVerdict HasBasisShown b.told = has_one test HasBasisShown law b.told b.spelled.spells.spells.fits in
       let found =
       one.same (record { life = life; turn = turn; row = row }) (record { life = number; turn = count; row = other })
       (subst (λ told. FirstUnjust HasBasisShown told life turn row) same a.first) b.first in
@@ -48,8 +48,8 @@ module _ (law : AllAreTold) (texts : TranscriptsAreOne) (text : List ℕ) where
   judged_once (verdicts.No life turn row) (verdicts.No number count other) a b = no_once life turn number count row other a b
 
   judged_good : (verdict : Verdict) (line : ℕ) → IsJudged text verdict → NamesBad text line → ⊥
-  judged_good (verdicts.Yes lives turns) line yes bad = no_bad_line text yes.told line tt yes.spelled bad
-  judged_good (verdicts.No life turn row) line no bad = no_bad_line text no.told line tt no.spelled bad
+  judged_good (verdicts.Yes lives turns) line a bad = no_bad_line text a.told line tt a.spelled bad
+  judged_good (verdicts.No life turn row) line a bad = no_bad_line text a.told line tt a.spelled bad
 
 pub verdict_once : AllAreTold → TranscriptsAreOne → AVerdictIsOne
 verdict_once law texts = record {
