@@ -1,5 +1,4 @@
 //! What goes through the lines of a transcript.
-ghost use Rattle.conf_text.specs.Contents.{configuration};
 ghost use Rattle.audit_model.specs.Auditing as model;
 ghost use Rattle.audit_model.specs.Auditing.{Auditing};
 ghost use Rattle.audit_seats.specs.Tests.{judged_by};
