@@ -1,5 +1,5 @@
--- What is said of a text: that it is a transcript, and whether each address that it shows on a managed interface has its
--- basis.
+-- What is said of a text: that it is a transcript, and whether each address that it shows on a managed interface has
+-- its basis.
 use Rattle.std.specs.Prelude.{ℕ, List}
 use Rattle.evidence.specs.Laws.{HasBasisIn}
 use Rattle.lease6_judge.specs.HeardBasis.{HeardBasis}
@@ -19,7 +19,7 @@ abbrev pub IsJudged : (text : List ℕ) → Verdict → Type 0
 IsJudged text (verdicts.Yes lives turns) = IsYes HasBasisShown text lives turns
 IsJudged text (verdicts.No life turn row) = IsNo HasBasisShown text life turn row
 
--- The text is no transcript, and this is the first line with which none goes on; where it ends early, the line after its
--- last.
+-- The text is no transcript, and this is the first line with which none goes on; where it ends early, the line after
+-- its last.
 abbrev pub NamesBad : (text : List ℕ) → (line : ℕ) → Type 0
 NamesBad text line = IsBadLine text line

@@ -6,7 +6,7 @@ use world::HostRow;
 pub enum Verdict {
     /// Each has. There are so many lives, and so many turns in all of them.
     Yes { lives: u64, turns: u64 },
-    /// This is the first that has none, by life, turn and row order, and it is shown after this turn of this life: lives
-    /// are counted from 1 and turns too, and an opening is turn 0.
+    /// This is the first that has none, by life, turn and row order, and it is shown after this turn of this life:
+    /// lives are counted from 1 and turns too, and an opening is turn 0.
     No { life: u64, turn: u64, row: HostRow },
 }
