@@ -19,3 +19,5 @@ mod interfaces;
 mod lease_file_cases;
 #[cfg(test)]
 mod resolver_text_cases;
+#[cfg(test)]
+mod transcript_audit_cases;

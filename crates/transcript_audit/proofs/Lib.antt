@@ -1,0 +1,5 @@
+mod SayingLaws
+mod TurnCounts
+mod BadLines
+mod JudgedTexts
+mod OneVerdict
