@@ -5,7 +5,7 @@ use Rattle.net_types.specs.declared.address.Mac.{Mac}
 use Rattle.net_types.specs.declared.interface.IfSpec.{IfSpec}
 use Rattle.net_types.specs.declared.interface.Name.{Name}
 use Rattle.live_words.specs.LiveWords.{AsksLive}
-use Rattle.dhcpcd.specs.Words.{AskReplay, AskCheck, AskDump, AskImport, AskLab, AskLive, AskMake, AsksImport, AsksMake, AskWork}
+use Rattle.dhcpcd.specs.Words.{AskAudit, AskReplay, AskCheck, AskDump, AskImport, AskLab, AskLive, AskMake, AsksImport, AsksMake, AskWork}
 
 first_word : List (List ℕ) → List ℕ
 first_word [] = []
@@ -103,6 +103,34 @@ pub not_import_lab : (words : List (List ℕ)) → AskImport words → AskLab wo
 unfolding first_word
 not_import_lab words import lab = apart words (codes "import") (codes "lab") refl refl (ap first_word import.2.says) (ap first_word lab)
 
+pub not_replay_audit : (words : List (List ℕ)) → AskReplay words → AskAudit words → ⊥
+unfolding first_word
+not_replay_audit words replay audit = apart words (codes "replay") (codes "audit") refl refl (ap first_word replay) (ap first_word audit)
+
+pub not_check_audit : (words : List (List ℕ)) → AskCheck words → AskAudit words → ⊥
+unfolding first_word
+not_check_audit words check audit = apart words (codes "check") (codes "audit") refl refl (ap first_word check) (ap first_word audit)
+
+pub not_live_audit : (words : List (List ℕ)) → AskLive words → AskAudit words → ⊥
+unfolding first_word
+not_live_audit words live audit = apart words (codes "live") (codes "audit") refl refl (ap first_word live.1.says) (ap first_word audit)
+
+pub not_make_audit : (words : List (List ℕ)) → AskMake words → AskAudit words → ⊥
+unfolding first_word
+not_make_audit words make audit = apart words (codes "make") (codes "audit") refl refl (ap first_word make.1.says) (ap first_word audit)
+
+pub not_dump_audit : (words : List (List ℕ)) → AskDump words → AskAudit words → ⊥
+unfolding first_word
+not_dump_audit words dump audit = apart words (codes "dump") (codes "audit") refl refl (ap first_word dump) (ap first_word audit)
+
+pub not_import_audit : (words : List (List ℕ)) → AskImport words → AskAudit words → ⊥
+unfolding first_word
+not_import_audit words import audit = apart words (codes "import") (codes "audit") refl refl (ap first_word import.2.says) (ap first_word audit)
+
+pub not_lab_audit : (words : List (List ℕ)) → AskLab words → AskAudit words → ⊥
+unfolding first_word
+not_lab_audit words lab audit = apart words (codes "lab") (codes "audit") refl refl (ap first_word lab) (ap first_word audit)
+
 -- No words ask for two works.
 pub ruleset asked_apart = (
   not_both,
@@ -126,15 +154,23 @@ pub ruleset asked_apart = (
   not_make_lab,
   not_dump_lab,
   not_import_lab,
+  not_replay_audit,
+  not_check_audit,
+  not_live_audit,
+  not_make_audit,
+  not_dump_audit,
+  not_import_audit,
+  not_lab_audit,
 )
 
 -- words that ask for no work
 pub none_asked : (words : List (List ℕ)) → (AskReplay words → ⊥) → (AskCheck words → ⊥) → (AskDump words → ⊥) → (AskLab words → ⊥)
+    → (AskAudit words → ⊥)
     → ((rounds : ℕ) → AsksMake words rounds → ⊥)
     → ((name : Name) (mac : Mac) → AsksImport words name mac → ⊥) → ((specs : List IfSpec) → AsksLive words specs → ⊥) → AskWork words → ⊥
-none_asked words replay check dump lab make import live asks =
-    let imports_or_lab : AskImport words ⊎ AskLab words → ⊥ = ⊎_elim (λ asked. import asked.0 asked.1 asked.2) lab in
-    let imports : AskDump words ⊎ (AskImport words ⊎ AskLab words) → ⊥ = ⊎_elim dump imports_or_lab in
+none_asked words replay check dump lab audit make import live asks =
+    let imports_or_later : AskImport words ⊎ (AskLab words ⊎ AskAudit words) → ⊥ = ⊎_elim (λ asked. import asked.0 asked.1 asked.2) (⊎_elim lab audit) in
+    let imports : AskDump words ⊎ (AskImport words ⊎ (AskLab words ⊎ AskAudit words)) → ⊥ = ⊎_elim dump imports_or_later in
     let makes = ⊎_elim (λ asked. make asked.0 asked.1) imports in
     let lives = ⊎_elim (λ asked. live asked.0 asked.1) makes in
     ⊎_elim replay (⊎_elim check lives) asks

@@ -7,10 +7,11 @@ use Rattle.conf_text.specs.Configurations.{NoticeContent, Configuration}
 use Rattle.conf_text.proofs.OneLaws.{configuration_one}
 use Rattle.dhcpcd.specs.declared.status.Status.{Status}
 use Rattle.dhcpcd.specs.declared.status.Status.TheVariants as status
-use Rattle.dhcpcd.specs.Checks.{TellsConfiguration, check_text, checking}
+use Rattle.dhcpcd.specs.Checks.{IsCheckOf, RefusesConfiguration, TellsConfiguration, check_text, checking}
 use Rattle.dhcpcd.specs.Refusals.{IsConfRefused}
 use Rattle.dhcpcd.specs.Works.{IsDecided, MayRefuse, Serves}
 use Rattle.dhcpcd.specs.Replays.{notice_line}
+use Rattle.dhcpcd.proofs.WorkLaws.{finds_nothing}
 
 -- the notices, and then `ok`
 pub all_said : (t u v : List ℕ) (said : List NoticeContent) (conf : Configuration) → said ≡ conf.notices → Prints t u (map notice_line said)
@@ -25,20 +26,25 @@ err_ok : {A B : Type 0} {a : A} {b : B} → Err b ≡ Ok a → ⊥
 err_ok e = cc
 
 -- a configuration has no fault
+configuration_taken : (bytes text : List ℕ) (answer : Status) → IsCheckOf bytes text → RefusesConfiguration bytes answer → ⊥
+configuration_taken bytes text (status.Conf fault) gives refuses = err_ok (configuration_one bytes (Err fault) (Ok gives.conf) refuses gives.configured)
+configuration_taken bytes text status.Done gives refuses = absurd refuses
+configuration_taken bytes text status.Usage gives refuses = absurd refuses
+configuration_taken bytes text (status.Script fault) gives refuses = absurd refuses
+configuration_taken bytes text status.ReadFault gives refuses = absurd refuses
+configuration_taken bytes text status.WriteFault gives refuses = absurd refuses
+configuration_taken bytes text status.LinkFault gives refuses = absurd refuses
+configuration_taken bytes text status.TurnsOver gives refuses = absurd refuses
+configuration_taken bytes text (status.Lease line) gives refuses = absurd refuses
+configuration_taken bytes text (status.Capture what) gives refuses = absurd refuses
+configuration_taken bytes text (status.Schedule line) gives refuses = absurd refuses
+configuration_taken bytes text (status.Transcript line) gives refuses = absurd refuses
+configuration_taken bytes text status.Unjustified gives refuses = absurd refuses
+configuration_taken bytes text status.TooLong gives refuses = absurd refuses
+configuration_taken bytes text status.NoMemory gives refuses = absurd refuses
+
 pub checking_is_decided : IsDecided checking
-checking_is_decided bytes text (status.Conf fault) gives refuses = err_ok (configuration_one bytes (Err fault) (Ok gives.conf) refuses gives.configured)
-checking_is_decided bytes text status.Done gives refuses = absurd refuses
-checking_is_decided bytes text status.Usage gives refuses = absurd refuses
-checking_is_decided bytes text (status.Script fault) gives refuses = absurd refuses
-checking_is_decided bytes text status.ReadFault gives refuses = absurd refuses
-checking_is_decided bytes text status.WriteFault gives refuses = absurd refuses
-checking_is_decided bytes text status.LinkFault gives refuses = absurd refuses
-checking_is_decided bytes text status.TurnsOver gives refuses = absurd refuses
-checking_is_decided bytes text (status.Lease line) gives refuses = absurd refuses
-checking_is_decided bytes text (status.Capture what) gives refuses = absurd refuses
-checking_is_decided bytes text (status.Schedule line) gives refuses = absurd refuses
-checking_is_decided bytes text status.TooLong gives refuses = absurd refuses
-checking_is_decided bytes text status.NoMemory gives refuses = absurd refuses
+checking_is_decided = finds_nothing IsCheckOf RefusesConfiguration configuration_taken
 
 pub configuration_serves : (input : Option (List ℕ)) → TellsConfiguration input → Serves checking input
 configuration_serves input tells = record {
@@ -63,4 +69,6 @@ refused_check bytes status.TurnsOver refused = absurd refused
 refused_check bytes (status.Lease line) refused = absurd refused
 refused_check bytes (status.Capture what) refused = absurd refused
 refused_check bytes (status.Schedule line) refused = absurd refused
+refused_check bytes (status.Transcript line) refused = absurd refused
+refused_check bytes status.Unjustified refused = absurd refused
 refused_check bytes status.TooLong refused = absurd refused

@@ -29,6 +29,8 @@ stops_writing A status.TurnsOver fault memory stops = absurd stops
 stops_writing A (status.Lease line) fault memory stops = absurd stops
 stops_writing A (status.Capture what) fault memory stops = absurd stops
 stops_writing A (status.Schedule line) fault memory stops = absurd stops
+stops_writing A (status.Transcript line) fault memory stops = absurd stops
+stops_writing A status.Unjustified fault memory stops = absurd stops
 stops_writing A status.TooLong fault memory stops = absurd stops
 stops_writing A status.NoMemory fault memory stops = memory
 
@@ -58,6 +60,8 @@ refused_answer status.TurnsOver input old new bytes read within same refused = a
 refused_answer (status.Lease line) input old new bytes read within same refused = absurd refused
 refused_answer (status.Capture what) input old new bytes read within same refused = absurd refused
 refused_answer (status.Schedule line) input old new bytes read within same refused = absurd refused
+refused_answer (status.Transcript line) input old new bytes read within same refused = absurd refused
+refused_answer status.Unjustified input old new bytes read within same refused = absurd refused
 refused_answer status.TooLong input old new bytes read within same refused = absurd refused
 refused_answer status.NoMemory input old new bytes read within same refused = inl same
 
@@ -104,5 +108,7 @@ completes status.TurnsOver input old new a b p q tells read wrote answer cause =
 completes (status.Lease line) input old new a b p q tells read wrote answer cause = absurd answer
 completes (status.Capture what) input old new a b p q tells read wrote answer cause = absurd answer
 completes (status.Schedule line) input old new a b p q tells read wrote answer cause = absurd answer
+completes (status.Transcript line) input old new a b p q tells read wrote answer cause = absurd answer
+completes status.Unjustified input old new a b p q tells read wrote answer cause = absurd answer
 completes status.TooLong input old new a b p q tells read wrote answer cause = absurd (not_too_long input tells.bytes tells.told tells.in_limit answer.0)
 completes status.NoMemory input old new a b p q tells read wrote answer cause = tt

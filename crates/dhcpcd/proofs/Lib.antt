@@ -10,6 +10,7 @@ pub mod InputWorks
 pub mod Refusals
 pub mod ManagedApart
 pub mod LabsApart
+pub mod AuditLaws
 pub mod SharesApart
 pub mod WholeLife
 pub mod LifeLeft

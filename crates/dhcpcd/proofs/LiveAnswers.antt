@@ -58,6 +58,8 @@ head_cut answer ask out out_to seen front stops = answers answer stops
     answers (status.Lease line) stops = absurd stops
     answers (status.Capture what) stops = absurd stops
     answers (status.Schedule line) stops = absurd stops
+    answers (status.Transcript line) stops = absurd stops
+    answers status.Unjustified stops = absurd stops
     answers status.TooLong stops = absurd stops
     answers status.NoMemory stops = inl cut
 
@@ -112,6 +114,8 @@ module _ (text : List ℕ) (conf : Configuration) (is : IsConfOf text (Ok conf))
     live_answer (status.Lease line) life = absurd life
     live_answer (status.Capture what) life = absurd life
     live_answer (status.Schedule line) life = absurd life
+    live_answer (status.Transcript line) life = absurd life
+    live_answer status.Unjustified life = absurd life
     live_answer status.TooLong life = absurd life
     live_answer status.NoMemory life = inr (lived status.NoMemory life)
 
@@ -129,6 +133,8 @@ unread_live status.TurnsOver specs turns input told same stops long = absurd sto
 unread_live (status.Lease line) specs turns input told same stops long = absurd stops
 unread_live (status.Capture what) specs turns input told same stops long = absurd stops
 unread_live (status.Schedule line) specs turns input told same stops long = absurd stops
+unread_live (status.Transcript line) specs turns input told same stops long = absurd stops
+unread_live status.Unjustified specs turns input told same stops long = absurd stops
 unread_live status.TooLong specs turns input told same stops long = (long refl, same)
 unread_live status.NoMemory specs turns input told same stops long = inl same
 
@@ -147,6 +153,8 @@ refused_live status.TurnsOver specs turns input told text same read within refus
 refused_live (status.Lease line) specs turns input told text same read within refused = absurd refused
 refused_live (status.Capture what) specs turns input told text same read within refused = absurd refused
 refused_live (status.Schedule line) specs turns input told text same read within refused = absurd refused
+refused_live (status.Transcript line) specs turns input told text same read within refused = absurd refused
+refused_live status.Unjustified specs turns input told text same read within refused = absurd refused
 refused_live status.TooLong specs turns input told text same read within refused = absurd refused
 refused_live status.NoMemory specs turns input told text same read within refused = inl same
 
@@ -173,6 +181,8 @@ live_completes status.TurnsOver specs turns input told a b p q tells read wrote 
 live_completes (status.Lease line) specs turns input told a b p q tells read wrote linked answer cause = absurd answer
 live_completes (status.Capture what) specs turns input told a b p q tells read wrote linked answer cause = absurd answer
 live_completes (status.Schedule line) specs turns input told a b p q tells read wrote linked answer cause = absurd answer
+live_completes (status.Transcript line) specs turns input told a b p q tells read wrote linked answer cause = absurd answer
+live_completes status.Unjustified specs turns input told a b p q tells read wrote linked answer cause = absurd answer
 live_completes status.TooLong specs turns input told a b p q tells read wrote linked answer cause =
     absurd (not_too_long input tells.bytes tells.told tells.in_limit answer.0)
 live_completes status.NoMemory specs turns input told a b p q tells read wrote linked answer cause = tt

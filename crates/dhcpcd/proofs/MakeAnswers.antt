@@ -47,6 +47,8 @@ only_memory rounds status.TurnsOver refused = absurd refused
 only_memory rounds (status.Lease line) refused = absurd refused
 only_memory rounds (status.Capture what) refused = absurd refused
 only_memory rounds (status.Schedule line) refused = absurd refused
+only_memory rounds (status.Transcript line) refused = absurd refused
+only_memory rounds status.Unjustified refused = absurd refused
 only_memory rounds status.TooLong refused = absurd refused
 only_memory rounds status.NoMemory refused = refl
 
@@ -102,6 +104,8 @@ never_stopped status.TurnsOver old new cause stops same = absurd stops
 never_stopped (status.Lease line) old new cause stops same = absurd stops
 never_stopped (status.Capture what) old new cause stops same = absurd stops
 never_stopped (status.Schedule line) old new cause stops same = absurd stops
+never_stopped (status.Transcript line) old new cause stops same = absurd stops
+never_stopped status.Unjustified old new cause stops same = absurd stops
 never_stopped status.TooLong old new cause stops same = absurd stops
 never_stopped status.NoMemory old new cause stops same = refl
 
@@ -133,6 +137,8 @@ make_completes status.TurnsOver rounds a b old new answer cause same = absurd an
 make_completes (status.Lease line) rounds a b old new answer cause same = absurd answer
 make_completes (status.Capture what) rounds a b old new answer cause same = absurd answer
 make_completes (status.Schedule line) rounds a b old new answer cause same = absurd answer
+make_completes (status.Transcript line) rounds a b old new answer cause same = absurd answer
+make_completes status.Unjustified rounds a b old new answer cause same = absurd answer
 make_completes status.TooLong rounds a b old new answer cause same = absurd answer
 make_completes status.NoMemory rounds a b old new answer cause same = tt
 
@@ -148,6 +154,8 @@ cause_beside status.TurnsOver input a b cause = (omega arith, cause.1)
 cause_beside (status.Lease line) input a b cause = (omega arith, cause.1)
 cause_beside (status.Capture what) input a b cause = (omega arith, cause.1)
 cause_beside (status.Schedule line) input a b cause = (omega arith, cause.1)
+cause_beside (status.Transcript line) input a b cause = (omega arith, cause.1)
+cause_beside status.Unjustified input a b cause = (omega arith, cause.1)
 cause_beside status.TooLong input a b cause = (omega arith, cause.1)
 cause_beside status.NoMemory input a b cause = (omega arith, cause.1)
 
@@ -163,6 +171,8 @@ no_link_cause status.TurnsOver rounds link old new answer = omega arith
 no_link_cause (status.Lease line) rounds link old new answer = omega arith
 no_link_cause (status.Capture what) rounds link old new answer = omega arith
 no_link_cause (status.Schedule line) rounds link old new answer = omega arith
+no_link_cause (status.Transcript line) rounds link old new answer = omega arith
+no_link_cause status.Unjustified rounds link old new answer = omega arith
 no_link_cause status.TooLong rounds link old new answer = omega arith
 no_link_cause status.NoMemory rounds link old new answer = omega arith
 

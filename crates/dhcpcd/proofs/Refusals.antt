@@ -44,6 +44,8 @@ refused_unread status.TurnsOver bytes refused = absurd refused
 refused_unread (status.Lease line) bytes refused = absurd refused
 refused_unread (status.Capture what) bytes refused = absurd refused
 refused_unread (status.Schedule line) bytes refused = absurd refused
+refused_unread (status.Transcript line) bytes refused = absurd refused
+refused_unread status.Unjustified bytes refused = absurd refused
 refused_unread status.TooLong bytes refused = absurd refused
 refused_unread status.NoMemory bytes refused = tt
 
@@ -60,6 +62,8 @@ refused_conf status.TurnsOver bytes script read refused = absurd refused
 refused_conf (status.Lease line) bytes script read refused = absurd refused
 refused_conf (status.Capture what) bytes script read refused = absurd refused
 refused_conf (status.Schedule line) bytes script read refused = absurd refused
+refused_conf (status.Transcript line) bytes script read refused = absurd refused
+refused_conf status.Unjustified bytes script read refused = absurd refused
 refused_conf status.TooLong bytes script read refused = absurd refused
 refused_conf status.NoMemory bytes script read refused = tt
 

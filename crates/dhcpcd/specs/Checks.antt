@@ -6,7 +6,7 @@ use Rattle.dhcpcd.specs.declared.status.Status.{Status}
 use Rattle.dhcpcd.specs.declared.status.Status.TheVariants as status
 use Rattle.dhcpcd.specs.Input.{limit}
 use Rattle.dhcpcd.specs.Replays.{notice_line}
-use Rattle.dhcpcd.specs.Works.{Work, IsWorked}
+use Rattle.dhcpcd.specs.Works.{Work, IsWorked, NothingFound}
 
 -- one line for each notice, in order, and then `ok`
 abbrev pub check_text : Configuration → List ℕ
@@ -24,7 +24,7 @@ RefusesConfiguration bytes (status.Conf fault) = IsConfOf bytes (Err fault)
 RefusesConfiguration bytes other = ⊥
 
 abbrev pub checking : Work
-checking = record { Gives = IsCheckOf; Refuses = RefusesConfiguration }
+checking = record { Gives = IsCheckOf; Finds = NothingFound; Refuses = RefusesConfiguration }
 
 -- what check answers, by the input and by what is written before and after
 abbrev pub IsCheckAnswer : Status → Option (List ℕ) → Option (List ℕ) → Option (List ℕ) → Type 0

@@ -4,7 +4,7 @@ use Rattle.world.specs.HookCalls.{Variable}
 use Rattle.lease_dump.specs.Dumps.{IsBadAs, IsDumped, is_of_dhcp6, variables_text}
 use Rattle.dhcpcd.specs.declared.status.Status.{Status}
 use Rattle.dhcpcd.specs.declared.status.Status.TheVariants as status
-use Rattle.dhcpcd.specs.Works.{Work, IsWorked}
+use Rattle.dhcpcd.specs.Works.{Work, IsWorked, NothingFound}
 
 -- the bytes are a lease, and the text has a line for each of its variables
 pub record IsDumpOf (bytes text : List ℕ) : Type 0 where
@@ -18,7 +18,7 @@ RefusesLease bytes (status.Lease line) = IsBadAs (is_of_dhcp6 bytes) bytes line
 RefusesLease bytes other = ⊥
 
 abbrev pub dumping : Work
-dumping = record { Gives = IsDumpOf; Refuses = RefusesLease }
+dumping = record { Gives = IsDumpOf; Finds = NothingFound; Refuses = RefusesLease }
 
 -- what dump answers, by the input and by what is written before and after
 abbrev pub IsDumpAnswer : Status → (input old new : Option (List ℕ)) → Type 0

@@ -5,7 +5,7 @@ use Rattle.capture_script.specs.Captures.{capture_form}
 use Rattle.capture_script.specs.CapturedScripts.{IsImported}
 use Rattle.dhcpcd.specs.declared.status.Status.{Status}
 use Rattle.dhcpcd.specs.declared.status.Status.TheVariants as status
-use Rattle.dhcpcd.specs.Works.{Work, IsWorked}
+use Rattle.dhcpcd.specs.Works.{Work, IsWorked, NothingFound}
 
 -- the cause is the first that holds
 abbrev pub RefusesCapture : List ℕ → Status → Type 0
@@ -13,7 +13,8 @@ RefusesCapture bytes (status.Capture cause) = capture_form bytes ≡ Err cause
 RefusesCapture bytes other = ⊥
 
 abbrev pub importing : IfSpec → Work
-importing spec = record { Gives = λ bytes text. IsImported bytes spec text; Refuses = RefusesCapture }
+importing spec =
+    record { Gives = λ bytes text. IsImported bytes spec text; Finds = NothingFound; Refuses = RefusesCapture }
 
 -- what import answers, by the input and by what is written before and after
 abbrev pub IsImportAnswer : IfSpec → Status → (input old new : Option (List ℕ)) → Type 0

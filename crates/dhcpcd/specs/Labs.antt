@@ -8,7 +8,7 @@ use Rattle.lab_schedule.specs.Schedules.{Schedule, SpellsSchedule, IsBadLine}
 use Rattle.lab_model.specs.LabLines.{lab_text}
 use Rattle.dhcpcd.specs.declared.status.Status.{Status}
 use Rattle.dhcpcd.specs.declared.status.Status.TheVariants as status
-use Rattle.dhcpcd.specs.Works.{Work, IsWorked}
+use Rattle.dhcpcd.specs.Works.{Work, IsWorked, NothingFound}
 
 -- the bytes spell a schedule with a configuration, and this is the text of its lab
 pub record IsLabOf (bytes text : List ℕ) : Type 0 where
@@ -31,7 +31,7 @@ RefusesSchedule bytes (status.Conf fault) = IsScheduleConfFault bytes fault
 RefusesSchedule bytes other = ⊥
 
 abbrev pub lab_work : Work
-lab_work = record { Gives = IsLabOf; Refuses = RefusesSchedule }
+lab_work = record { Gives = IsLabOf; Finds = NothingFound; Refuses = RefusesSchedule }
 
 -- what lab answers, by the input and by what is written before and after
 abbrev pub IsLabAnswer : Status → (input old new : Option (List ℕ)) → Type 0

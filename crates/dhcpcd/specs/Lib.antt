@@ -16,6 +16,7 @@ pub mod Dumping
 pub mod Importing
 pub mod Labs
 pub mod LabsHeld
+pub mod Auditing
 pub mod Words
 pub mod GoodAsks
 pub mod MakeReading

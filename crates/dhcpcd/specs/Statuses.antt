@@ -25,6 +25,8 @@ status_number status.LinkFault = 7
 status_number status.TurnsOver = 8
 status_number status.TooLong = 9
 status_number status.NoMemory = 10
+status_number (status.Transcript line) = 11
+status_number status.Unjustified = 12
 status_number (status.Lease line) = 13
 status_number (status.Capture cause) = 14
 status_number (status.Schedule line) = 15
@@ -80,6 +82,8 @@ IsAnswer status.TurnsOver input old new = ⊥
 IsAnswer (status.Lease line) input old new = ⊥
 IsAnswer (status.Capture cause) input old new = ⊥
 IsAnswer (status.Schedule line) input old new = ⊥
+IsAnswer (status.Transcript line) input old new = ⊥
+IsAnswer status.Unjustified input old new = ⊥
 IsAnswer status.TooLong input old new = IsTooLong input × (new ≡ old)
 IsAnswer status.NoMemory input old new = (new ≡ old) ⊎ IsStopped input old new
 

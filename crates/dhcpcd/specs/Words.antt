@@ -47,11 +47,16 @@ AskImport words = (name : Name) × (mac : Mac) × AsksImport words name mac
 abbrev pub AskLab : List (List ℕ) → Type 0
 AskLab words = words ≡ codes "lab" ∷ []
 
+-- the words are `audit` alone
+abbrev pub AskAudit : List (List ℕ) → Type 0
+AskAudit words = words ≡ codes "audit" ∷ []
+
 -- the words are of one of these forms
 abbrev pub AskWork : List (List ℕ) → Type 0
 AskWork words =
     AskReplay words
-    ⊎ (AskCheck words ⊎ (AskLive words ⊎ (AskMake words ⊎ (AskDump words ⊎ (AskImport words ⊎ AskLab words)))))
+    ⊎ (AskCheck words
+    ⊎ (AskLive words ⊎ (AskMake words ⊎ (AskDump words ⊎ (AskImport words ⊎ (AskLab words ⊎ AskAudit words))))))
 
 -- what words of none of these forms are answered; only those that begin with `live` may want memory
 abbrev pub IsUsage : List (List ℕ) → Status → Type 0

@@ -8,7 +8,7 @@ ghost use Rattle.dhcpcd.specs.Statuses.{HasStatusCause, Completes};
 use crate::heads::say_notices;
 use crate::settling::read_configuration;
 use crate::status::Status;
-use crate::working::{TextWork, perform};
+use crate::working::{Finding, TextWork, perform};
 use conf_text::{Conf, notices};
 use std::alloc::Global;
 use world::{NoMemory, Sink, Source};
@@ -30,11 +30,11 @@ impl TextWork for CheckWork {
     ghost work = { λ _. checking };
 
     #[tactic(auto, using(crate::proofs::CheckTexts::refused_check))]
-    fn text_of(&self, alloc: Global, bytes: &[u8]) -> Result<Vec<u8>, Status> {
+    fn text_of(&self, alloc: Global, bytes: &[u8]) -> Result<Finding, Status> {
         let conf = read_configuration(alloc, bytes)?;
         let mut text = Vec::new(alloc);
         say_check(&conf, &mut text)?;
-        Ok(text)
+        Ok(Finding::good(text))
     }
 }
 

@@ -6,7 +6,7 @@ ghost use Rattle.dhcpcd.specs.Statuses.{HasStatusCause, Completes};
 ghost use Rattle.dhcpcd.specs.Works.{Serves};
 
 use crate::status::Status;
-use crate::working::{TextWork, perform};
+use crate::working::{Finding, TextWork, perform};
 use lease_dump::{DumpAnswer, append_variables, dump};
 use std::alloc::Global;
 use world::{Sink, Source};
@@ -17,7 +17,7 @@ pub struct DumpWork;
 impl TextWork for DumpWork {
     ghost work = { λ _. dumping };
 
-    fn text_of(&self, alloc: Global, bytes: &[u8]) -> Result<Vec<u8>, Status> {
+    fn text_of(&self, alloc: Global, bytes: &[u8]) -> Result<Finding, Status> {
         let vars = match dump(alloc, bytes) {
             Ok(vars) => vars,
             Err(DumpAnswer::BadLease { line }) => return Err(Status::Lease { line }),
@@ -25,7 +25,7 @@ impl TextWork for DumpWork {
         };
         let mut text = Vec::new(alloc);
         append_variables(&vars, &mut text)?;
-        Ok(text)
+        Ok(Finding::good(text))
     }
 }
 

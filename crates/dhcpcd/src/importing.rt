@@ -7,7 +7,7 @@ ghost use Rattle.dhcpcd.specs.Statuses.{HasStatusCause, Completes};
 ghost use Rattle.dhcpcd.specs.Works.{Serves};
 
 use crate::status::Status;
-use crate::working::{TextWork, perform};
+use crate::working::{Finding, TextWork, perform};
 use capture_script::{ImportAnswer, import};
 use net_types::{Mac, Name};
 use std::alloc::Global;
@@ -23,9 +23,9 @@ pub struct Import {
 impl TextWork for Import {
     ghost work = { λ self. importing (spec_of self.name self.mac) };
 
-    fn text_of(&self, alloc: Global, bytes: &[u8]) -> Result<Vec<u8>, Status> {
+    fn text_of(&self, alloc: Global, bytes: &[u8]) -> Result<Finding, Status> {
         match import(alloc, bytes, self.name, self.mac) {
-            Ok(text) => Ok(text),
+            Ok(text) => Ok(Finding::good(text)),
             Err(ImportAnswer::Bad(cause)) => Err(Status::Capture(cause)),
             Err(ImportAnswer::NoMemory) => Err(Status::NoMemory),
         }

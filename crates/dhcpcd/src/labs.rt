@@ -11,7 +11,7 @@ ghost use Rattle.dhcpcd.specs.Works.{MayRefuse, Serves};
 
 use crate::settling::read_configuration;
 use crate::status::Status;
-use crate::working::{TextWork, perform};
+use crate::working::{Finding, TextWork, perform};
 use conf_text::managed;
 use lab_schedule::{Schedule, ScheduleAnswer, read_schedule};
 use lab_text::lab_text;
@@ -37,12 +37,12 @@ impl TextWork for LabWork {
     ghost work = { λ _. lab_work };
 
     #[tactic(auto, using(crate::proofs::InputWorks::refused_schedule, crate::proofs::InputWorks::lab_managed))]
-    fn text_of(&self, alloc: Global, bytes: &[u8]) -> Result<Vec<u8>, Status> {
+    fn text_of(&self, alloc: Global, bytes: &[u8]) -> Result<Finding, Status> {
         let schedule = schedule_of(alloc, bytes)?;
         let conf = read_configuration(alloc, &schedule.conf)?;
         let managed = managed(alloc, &conf, &schedule.ifaces)?;
         let text = lab_text(alloc, &managed, &schedule)?;
-        Ok(text)
+        Ok(Finding::good(text))
     }
 }
 

@@ -1,6 +1,7 @@
 //! The top call: what the words of the program ask for.
 #![tactic(auto)]
 
+mod auditing;
 mod checking;
 mod dumping;
 mod heads;

@@ -32,6 +32,10 @@ pub enum Status {
     Capture(CaptureCause),
     /// The input is no schedule of a lab; its first bad line, from 1.
     Schedule { line: u64 },
+    /// The input is no transcript; its first bad line, from 1.
+    Transcript { line: u64 },
+    /// A transcript shows an address without its basis.
+    Unjustified,
 }
 
 impl From<NoMemory> for Status {
@@ -60,6 +64,8 @@ impl Status {
             Status::TurnsOver => 8,
             Status::TooLong => 9,
             Status::NoMemory => 10,
+            Status::Transcript { .. } => 11,
+            Status::Unjustified => 12,
             Status::Lease { .. } => 13,
             Status::Capture(_) => 14,
             Status::Schedule { .. } => 15,

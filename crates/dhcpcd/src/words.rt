@@ -30,6 +30,8 @@ pub enum Work {
     Import(Import),
     /// `lab`: a schedule of clients and their server is read, and what they do is written.
     Lab,
+    /// `audit`: a transcript is read, and the verdict on it written.
+    Audit,
 }
 
 fn is_same(given: &str, word: &str) -> bool
@@ -146,6 +148,9 @@ pub fn work_of(alloc: Global, words: &[String]) -> Result<Option<Work>, NoMemory
     }
     if is_alone(words, "lab") {
         return Ok(Some(Work::Lab));
+    }
+    if is_alone(words, "audit") {
+        return Ok(Some(Work::Audit));
     }
     if let Some(rounds) = make_rounds(words) {
         return Ok(Some(Work::Make(rounds)));

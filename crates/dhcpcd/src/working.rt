@@ -1,8 +1,9 @@
-//! A work that reads the whole of its input, makes a text of it, and writes that.
-ghost use Rattle.std.specs.Prelude.{◌≡◌, ◌≢◌, ◌≤◌, true, Err, IfOk, IfErr};
+//! A work that reads the whole of its input, makes a text of it, and writes that; the text may tell what was found
+//! against the input.
+ghost use Rattle.std.specs.Prelude.{◌≡◌, ◌≢◌, ◌≤◌, true, false, Err, IfOk, IfErr};
 ghost use Rattle.dhcpcd.specs.Input.{ReadsWithin, input_told};
 ghost use Rattle.dhcpcd.specs.Statuses.{HasStatusCause, Completes};
-ghost use Rattle.dhcpcd.specs.Works.{IsDecided, IsDone, IsWorked, MayRefuse, Serves, Work};
+ghost use Rattle.dhcpcd.specs.Works.{IsDecided, IsDone, IsWorked, MayRefuse, Serves, Tells, Work};
 
 use crate::input::read_all;
 use crate::status::Status;
@@ -10,19 +11,43 @@ use crate::writing::write_text;
 use std::alloc::Global;
 use world::{Sink, Source};
 
+/// What is written of an input.
+#[derive(Drop)]
+pub struct Finding {
+    pub text: Vec<u8>,
+    /// Whether nothing was found against the input.
+    pub good: bool,
+}
+
+impl Finding {
+    /// The text that was asked for.
+    pub fn good(text: Vec<u8>) -> Finding
+        ensures { (result.text ≡ text) × (result.good ≡ true) }
+    {
+        Finding { text, good: true }
+    }
+
+    /// The text that tells what was found against the input.
+    pub fn against(text: Vec<u8>) -> Finding
+        ensures { (result.text ≡ text) × (result.good ≡ false) }
+    {
+        Finding { text, good: false }
+    }
+}
+
 /// What is made of the bytes of an input.
 pub trait TextWork {
-    // the text that bytes give, and how others are refused
+    // the texts that bytes give, and how others are refused
     ghost work: { Self → Work };
 
-    /// The text that the bytes give, or why they are refused.
-    fn text_of(&self, alloc: Global, bytes: &[u8]) -> Result<Vec<u8>, Status>
-        ensures gives { IfOk result (λ text. (work self.now).Gives bytes.now text.items) }
+    /// The text that the bytes give, or that tells what was found against them, or why they are refused.
+    fn text_of(&self, alloc: Global, bytes: &[u8]) -> Result<Finding, Status>
+        ensures tells { IfOk result (λ finding. Tells (work self.now) finding.good bytes.now finding.text.items) }
         ensures refuses { IfErr result (MayRefuse ((work self.now).Refuses bytes.now)) };
 }
 
-/// Reads the input, and writes the text that it gives.
-#[tactic(auto, using(crate::proofs::WorkLaws::unread, crate::proofs::WorkLaws::refused_cause, crate::proofs::WorkLaws::cut_short))]
+/// Reads the input, and writes the text that tells of it.
+#[tactic(auto, using(crate::proofs::WorkLaws::unread, crate::proofs::WorkLaws::refused_cause, crate::proofs::WorkLaws::cut_short, crate::proofs::WorkLaws::all_given, crate::proofs::WorkLaws::all_found))]
 fn give<K: TextWork, I: Source, O: Sink>(
     alloc: Global,
     work: &K,
@@ -44,12 +69,16 @@ fn give<K: TextWork, I: Source, O: Sink>(
     ensures out_steady { O.never_fails out.old ≡ true → O.faults out.new ≡ O.faults out.old }
 {
     let bytes = read_all(alloc, input)?;
-    let text = work.text_of(alloc, &bytes)?;
-    write_text(out, &text)?;
-    Ok(())
+    let finding = work.text_of(alloc, &bytes)?;
+    write_text(out, &finding.text)?;
+    if finding.good {
+        Ok(())
+    } else {
+        Err(Status::Unjustified)
+    }
 }
 
-/// Reads at most 16,777,216 bytes from the input, and writes the text that they give.
+/// Reads at most 16,777,216 bytes from the input, and writes the text that tells of them.
 #[tactic(auto, using(crate::proofs::WorkLaws::completes_work))]
 pub fn perform<K: TextWork, I: Source, O: Sink>(
     alloc: Global,
@@ -67,6 +96,8 @@ pub fn perform<K: TextWork, I: Source, O: Sink>(
         → O.never_fails out.old ≡ true → Completes result }
     ensures reads { ReadsWithin (input_told (I.left input.old) (I.taken input.old) (I.reads input.old))
         (input_told (I.left input.new) (I.taken input.new) (I.reads input.new)) }
+    ensures input_steady { I.never_fails input.old ≡ true → I.faults input.new ≡ I.faults input.old }
+    ensures out_steady { O.never_fails out.old ≡ true → O.faults out.new ≡ O.faults out.old }
 {
     match give(alloc, work, input, out) {
         Ok(()) => Status::Done,

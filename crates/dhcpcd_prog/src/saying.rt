@@ -1,12 +1,14 @@
 use dhcpcd::Status;
 use std::io::Result;
 
+/// The words that the program takes.
+const FORMS: &str =
+    "replay / check / live PORT PEER DIR SCRIPT IFACE.. / make N / dump / import NAME MAC / lab / audit";
+
 fn line(rt: &HostRuntime, status: Status) -> Result<()> {
     match status {
         Status::Done => Ok(()),
-        Status::Usage => eprintln!(rt;
-            "dhcpcd: usage: replay / check / live PORT PEER DIR SCRIPT IFACE.. / make N / dump / import NAME MAC / lab"
-        ),
+        Status::Usage => eprintln!(rt; "dhcpcd: usage: {FORMS}"),
         Status::Script(fault) => eprintln!(rt; "dhcpcd: {fault}"),
         Status::Conf(fault) => eprintln!(rt; "dhcpcd: {fault}"),
         Status::ReadFault => eprintln!(rt; "dhcpcd: read failed"),
@@ -18,6 +20,8 @@ fn line(rt: &HostRuntime, status: Status) -> Result<()> {
         Status::Lease { line } => eprintln!(rt; "dhcpcd: lease line {line}"),
         Status::Capture(cause) => eprintln!(rt; "dhcpcd: capture: {cause}"),
         Status::Schedule { line } => eprintln!(rt; "dhcpcd: schedule line {line}"),
+        Status::Transcript { line } => eprintln!(rt; "dhcpcd: transcript line {line}"),
+        Status::Unjustified => eprintln!(rt; "dhcpcd: address not justified"),
     }
 }
 

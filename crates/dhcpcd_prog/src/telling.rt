@@ -14,6 +14,7 @@ usage: dhcpcd replay < SCRIPT > TRANSCRIPT
        dhcpcd dump < LEASEFILE
        dhcpcd import NAME ADDRESS < CAPTURE > SCRIPT
        dhcpcd lab < SCHEDULE
+       dhcpcd audit < TRANSCRIPT
        dhcpcd --help
        dhcpcd --version
 
@@ -31,6 +32,8 @@ import makes a script of a packet capture (pcap, Ethernet) that was taken on the
 interface NAME with the hardware address ADDRESS: its frames come in again.
 lab reads a schedule of clients and one server on one clock, lives it in memory,
 and writes every frame and every lease that is held.
+audit reads a transcript. Where each address in it has its reason it writes yes
+and how many lives and turns there are, else no, a life, a turn and an address.
 An input has at most 16777216 bytes.
 
 exit status, with a line on standard error for each but 0:
@@ -44,6 +47,8 @@ exit status, with a line on standard error for each but 0:
    8  as many wakes as are allowed were handled
    9  the input is too long
   10  no memory
+  11  the input is no transcript; its first bad line is told
+  12  a transcript shows an address without a reason; the first is written
   13  the input is no lease file; its first bad line is told
   14  the input is no such capture; the cause is told
   15  the input is no schedule; its first bad line is told

@@ -1,0 +1,137 @@
+-- What `audit` makes of an input: one thing, and over streams that don't fail what is due.
+use Rattle.std.proofs.Common.{ℕ, ◌≡◌, ◌<◌, ◌≤◌, Bool, true, false, List, length, Option, Some, refl, sym, subst, ap, arith}
+use Rattle.world.specs.declared.rows.HostRow.{HostRow}
+use Rattle.transcript_audit.specs.declared.verdict.Verdict.{Verdict}
+use Rattle.transcript_audit.specs.declared.verdict.Verdict.TheVariants.{Yes, No}
+use Rattle.transcript_audit.specs.Laws.{AVerdictIsOne}
+use Rattle.transcript_audit.specs.Verdicts.{IsJudged, NamesBad}
+use Rattle.dhcpcd.specs.declared.status.Status.{Status}
+use Rattle.dhcpcd.specs.declared.status.Status.TheVariants as status
+use Rattle.dhcpcd.specs.Auditing.{HasDueAnswer, IsAnsweredDuly, IsAuditAnswer, RefusesTranscript, auditing, verdict_text}
+use Rattle.dhcpcd.specs.Input.{limit, IsTooLong}
+use Rattle.dhcpcd.specs.Statuses.{HasStatusCause}
+use Rattle.dhcpcd.specs.Works.{IsDecided, Tells}
+use Rattle.dhcpcd.proofs.Endings.{read_is}
+
+-- ---- the text
+
+pub says_yes : (bytes text : List ℕ) (lives turns : ℕ) → IsJudged bytes (Yes lives turns) → text ≡ verdict_text (Yes lives turns)
+    → Tells auditing true bytes text
+says_yes bytes text lives turns judged says = record { lives = lives; turns = turns; judged = judged; says = says }
+
+pub says_no : (bytes text : List ℕ) (life turn : ℕ) (row : HostRow) → IsJudged bytes (No life turn row) → text ≡ verdict_text (No life turn row)
+    → Tells auditing false bytes text
+says_no bytes text life turn row judged says = record { life = life; turn = turn; row = row; judged = judged; says = says }
+
+-- ---- no two things
+
+yes_no : {lives turns life turn : ℕ} {row : HostRow} → Yes lives turns ≡ No life turn row → ⊥
+yes_no e = cc
+
+record Judged (bytes : List ℕ) : Type 0 where
+  verdict : Verdict
+  is : IsJudged bytes verdict
+
+judged_so : (bytes text : List ℕ) (good : Bool) → Tells auditing good bytes text → Judged bytes
+judged_so bytes text true tells = record { verdict = Yes tells.lives tells.turns; is = tells.judged }
+judged_so bytes text false tells = record { verdict = No tells.life tells.turn tells.row; is = tells.judged }
+
+never_refused : AVerdictIsOne → (bytes : List ℕ) → Judged bytes → (answer : Status) → RefusesTranscript bytes answer → ⊥
+never_refused one bytes judged (status.Transcript line) refuses = one.none_bad bytes judged.verdict line judged.is refuses
+never_refused one bytes judged status.Unjustified refuses = absurd refuses
+never_refused one bytes judged (status.Schedule line) refuses = absurd refuses
+never_refused one bytes judged (status.Lease line) refuses = absurd refuses
+never_refused one bytes judged (status.Capture what) refuses = absurd refuses
+never_refused one bytes judged (status.Conf fault) refuses = absurd refuses
+never_refused one bytes judged (status.Script fault) refuses = absurd refuses
+never_refused one bytes judged status.Done refuses = absurd refuses
+never_refused one bytes judged status.Usage refuses = absurd refuses
+never_refused one bytes judged status.ReadFault refuses = absurd refuses
+never_refused one bytes judged status.WriteFault refuses = absurd refuses
+never_refused one bytes judged status.LinkFault refuses = absurd refuses
+never_refused one bytes judged status.TurnsOver refuses = absurd refuses
+never_refused one bytes judged status.TooLong refuses = absurd refuses
+never_refused one bytes judged status.NoMemory refuses = absurd refuses
+
+pub auditing_is_decided : AVerdictIsOne → IsDecided auditing
+auditing_is_decided one = record {
+  taken = λ bytes text answer tells refuses. never_refused one bytes (judged_so bytes text tells.0 tells.1) answer refuses;
+  apart = λ bytes text found gives finds.
+      yes_no (one.one bytes (Yes gives.lives gives.turns) (No finds.life finds.turn finds.row) gives.judged finds.judged);
+}
+
+-- ---- what is due
+
+too_short : {A : Type 0} (bytes : List ℕ) → length bytes ≤ limit → limit < length bytes → A
+too_short bytes within long = absurd (omega (arith, within, long))
+
+module _ (one : AVerdictIsOne) (bytes : List ℕ) where
+  due_yes : (lives turns : ℕ) → IsJudged bytes (Yes lives turns) → length bytes ≤ limit → HasDueAnswer bytes status.Done
+  due_yes lives turns judged within = record {
+    yes = λ other count is short. refl;
+    no = λ life turn row is short. absurd (yes_no (one.one bytes (Yes lives turns) (No life turn row) judged is));
+    bad = λ line bad short. absurd (one.none_bad bytes (Yes lives turns) line judged bad);
+    long = too_short bytes within;
+  }
+
+  due_no : (life turn : ℕ) (row : HostRow) → IsJudged bytes (No life turn row) → length bytes ≤ limit → HasDueAnswer bytes status.Unjustified
+  due_no life turn row judged within = record {
+    yes = λ lives turns is short. absurd (yes_no (one.one bytes (Yes lives turns) (No life turn row) is judged));
+    no = λ other number found is short. refl;
+    bad = λ line bad short. absurd (one.none_bad bytes (No life turn row) line judged bad);
+    long = too_short bytes within;
+  }
+
+  due_bad : (line : ℕ) → NamesBad bytes line → length bytes ≤ limit → HasDueAnswer bytes (status.Transcript line)
+  due_bad line bad within = record {
+    yes = λ lives turns is short. absurd (one.none_bad bytes (Yes lives turns) line is bad);
+    no = λ life turn row is short. absurd (one.none_bad bytes (No life turn row) line is bad);
+    bad = λ other also short. ap (λ n. status.Transcript n) (one.one_bad bytes line other bad also);
+    long = too_short bytes within;
+  }
+
+due_long : (bytes : List ℕ) → limit < length bytes → HasDueAnswer bytes status.TooLong
+due_long bytes long = record {
+  yes = λ lives turns is short. too_short bytes short long;
+  no = λ life turn row is short. too_short bytes short long;
+  bad = λ line bad short. too_short bytes short long;
+  long = λ again. refl;
+}
+
+-- memory was wanted
+due_none : (bytes : List ℕ) → HasDueAnswer bytes status.NoMemory
+due_none bytes = record {
+  yes = λ lives turns is short. tt;
+  no = λ life turn row is short. tt;
+  bad = λ line bad short. tt;
+  long = λ long. tt;
+}
+
+-- what was read is what is told
+as_told : (input : Option (List ℕ)) (bytes read : List ℕ) (answer : Status) → input ≡ Some bytes → bytes ≡ read → HasDueAnswer read answer
+    → HasDueAnswer bytes answer
+as_told input bytes read answer told same due = subst (λ (b : List ℕ). HasDueAnswer b answer) (sym same) due
+
+pub answered_duly : AVerdictIsOne → (answer : Status) (input old new : Option (List ℕ)) (a b p q : ℕ) → b ≡ a → q ≡ p → IsAuditAnswer answer input old new
+    → HasStatusCause answer a b p q → IsAnsweredDuly input answer
+answered_duly one status.Done input old new a b p q read wrote answer cause = λ bytes told.
+    as_told input bytes answer.bytes status.Done told (read_is input bytes answer.bytes told answer.read)
+    (due_yes one answer.bytes answer.gives.lives answer.gives.turns answer.gives.judged answer.in_limit)
+answered_duly one status.Unjustified input old new a b p q read wrote answer cause = λ bytes told.
+    as_told input bytes answer.bytes status.Unjustified told (read_is input bytes answer.bytes told answer.read)
+    (due_no one answer.bytes answer.gives.life answer.gives.turn answer.gives.row answer.gives.judged answer.in_limit)
+answered_duly one (status.Transcript line) input old new a b p q read wrote answer cause = λ bytes told.
+    as_told input bytes answer.bytes (status.Transcript line) told (read_is input bytes answer.bytes told answer.read)
+    (due_bad one answer.bytes line answer.why answer.in_limit)
+answered_duly one status.TooLong input old new a b p q read wrote answer cause = λ bytes told. due_long bytes (subst IsTooLong told answer.0)
+answered_duly one status.NoMemory input old new a b p q read wrote answer cause = λ bytes told. due_none bytes
+answered_duly one status.ReadFault input old new a b p q read wrote answer cause = absurd (omega (arith, read, cause.0))
+answered_duly one status.WriteFault input old new a b p q read wrote answer cause = absurd (omega (arith, wrote, cause.1))
+answered_duly one status.Usage input old new a b p q read wrote answer cause = absurd answer
+answered_duly one status.LinkFault input old new a b p q read wrote answer cause = absurd answer
+answered_duly one status.TurnsOver input old new a b p q read wrote answer cause = absurd answer
+answered_duly one (status.Script fault) input old new a b p q read wrote answer cause = absurd answer.why
+answered_duly one (status.Conf fault) input old new a b p q read wrote answer cause = absurd answer.why
+answered_duly one (status.Lease line) input old new a b p q read wrote answer cause = absurd answer.why
+answered_duly one (status.Capture what) input old new a b p q read wrote answer cause = absurd answer.why
+answered_duly one (status.Schedule line) input old new a b p q read wrote answer cause = absurd answer.why
