@@ -1,6 +1,7 @@
--- The lengths of prefixes, one after another.
-use Rattle.std.proofs.Common.{◌≡◌, ℕ, suc, ◌+◌, ◌-◌, ◌^◌, ◌<◌, ◌≤◌, ◌||◌, Bool, true, false, List, refl, sym, ap, subst, ◌∙◌, arith, add-one}
+-- The lengths of prefixes and the shares, one after another.
+use Rattle.std.proofs.Common.{◌≡◌, ℕ, suc, ◌+◌, ◌-◌, ◌^◌, ◌<◌, ◌≤◌, ◌||◌, Bool, true, false, List, length, drop, drop-cons, get_or, sym, ap, ◌∙◌, arith, add-one}
 use Rattle.std.specs.Prelude.{min}
+use Rattle.std.specs.List.{list_any}
 use Rattle.net_types.specs.declared.address.Net6.{Net6}
 use Rattle.net_types.specs.declared.interface.IfIndex.{IfIndex}
 use Rattle.settings.specs.declared.dhcp6_conf.ShareConf.{ShareConf}
@@ -32,3 +33,9 @@ module _ (upstream : Site) (index : IfIndex) (net : Net6) (past : List Entry) (s
 
   pub len_none : (len : ℕ) → 128 ≤ len → len ≤ 128 → up_to len ≡ false → up_to 128 ≡ false
   len_none len least most none = let all : len ≡ 128 = omega (arith, least, most) in sym (ap up_to all) ∙ none
+
+-- a further element of which the test isn't so
+pub any_less : {X : Type 0} (test : X → Bool) (xs : List X) (i : ℕ) (d : X) → i < length xs → test (get_or xs i d) ≡ false
+    → list_any test (drop i xs) ≡ list_any test (drop (i + 1) xs)
+any_less test xs i d less not_here =
+    rw add-one (ap (list_any test) (drop-cons xs i d less) ∙ ap (λ (b : Bool). b || list_any test (drop (suc i) xs)) not_here)
