@@ -10,7 +10,7 @@ use Rattle.iface_judge.proofs.sharing.is_heard_share.Goals as goal
 pub returns-in-V6 : goal.returns-in-V6
 returns-in-V6 c = λ past at told.
     let site = site_shown c.args.upstream.now in
-    let same = c.deref.ensures.value ∙ ap (λ (upstream : Site). upstream.managed.conf.dhcp6.shares) (sym c.upstream.view_is) in
+    let same = c.deref.ensures.value ∙ ap (λ (upstream : Site). upstream.managed.conf.dhcp6.shares) c.upstream.view_is in
     c.some_share.ensures past at told
     ∙ ap (λ (shares : List ShareConf). list_any (λ share. is_of_some site c.args.index c.in-V6.net past share 128) shares) same
     ∙ ap (λ (n : Net). is_heard_share site c.args.index n past) (sym c.in-V6.is)
