@@ -4,14 +4,11 @@ use Rattle.std.proofs.lemmas.Slice.Eq.{bytes_eq-Decides}
 use Rattle.std.specs.Prelude.{IsTrue, ◌⊎◌}
 use Rattle.std.specs.List.{list_all}
 use Rattle.std.specs.declared.io.ErrorKind.{ErrorKind}
+use Rattle.net_types.proofs.ReadsLaws.{some_same}
 use Rattle.edges.specs.Asking.{Does}
 use Rattle.edges.specs.DiskCalls.{DiskCall, Opened, Made, Read, Wrote, Synced, Closed, Renamed, Removed, Listed, Named, written_by, is_write}
 use Rattle.edges.specs.FolderCalls.{Writes, WritesOn, WritesTo, WritesAll, WritesSome, Syncs, Renames}
 use Rattle.edges.specs.Crashes.{open_after, is_this, is_open, touches, held_by, held_after, syncs_it, is_safe, LeavesHeld, TouchLeaves, MayLeave, IsSaving, SavesWhole}
-
--- two lists of calls that are told
-same_calls : {A : Type 0} {a b : A} → Some a ≡ Some b → a ≡ b
-same_calls refl = refl
 
 differ : (a b : List ℕ) → a ≢ b → bytes_eq a b ≡ false
 differ a b apart = elim (bytes_eq a b) as (λ r. bytes_eq a b ≡ r → r ≡ false) [
@@ -23,7 +20,7 @@ same_bytes : (a : List ℕ) → bytes_eq a a ≡ true
 same_bytes a = (bytes_eq-Decides a a).1 refl
 
 -- none of the calls touches the file
-Beside : List ℕ → List DiskCall → Type 0
+abbrev Beside : List ℕ → List DiskCall → Type 0
 Beside path [] = Unit {0}
 Beside path (call ∷ before) = (touches path call before ≡ false) × Beside path before
 
@@ -41,7 +38,7 @@ beside_front path [] made beside = beside
 beside_front path (call ∷ later) made beside = beside_front path later made beside.1
 
 -- whole or as it was, after these calls
-Whole : (path bytes : List ℕ) (entry : Option (List ℕ)) → List DiskCall → Type 0
+abbrev Whole : (path bytes : List ℕ) (entry : Option (List ℕ)) → List DiskCall → Type 0
 Whole path bytes entry calls = (content : Option (List ℕ)) → MayLeave path entry calls content → (content ≡ entry) ⊎ (content ≡ Some bytes)
 
 -- and after each front of them
@@ -59,7 +56,7 @@ one_more : (path bytes : List ℕ) (entry : Option (List ℕ)) (call : DiskCall)
 one_more path bytes entry call calls before now = record { at = λ later made is. at_front later made is }
   where
     tail_of : (other : DiskCall) (later made : List DiskCall) → call ∷ calls ≡ other ∷ (later ++ made) → calls ≡ later ++ made
-    tail_of other later made refl = refl
+    tail_of other later made is = cc
 
     at_front : (later made : List DiskCall) → call ∷ calls ≡ later ++ made → Whole path bytes entry made
     at_front [] made is = subst (Whole path bytes entry) is now
@@ -122,7 +119,7 @@ closed_by : (aside : List ℕ) (pieces : List DiskCall) (opened ended : Option (
     → calls ≡ Closed ∷ (pieces ++ Made aside None ∷ [])
 closed_by aside pieces opened ended calls made wrote closed =
     let upto : ended ≡ Some (pieces ++ Made aside None ∷ []) = subst (λ o. Does pieces o ended) made wrote in
-    same_calls (subst (λ e. Does (Closed ∷ []) e (Some calls)) upto closed)
+    some_same (subst (λ e. Does (Closed ∷ []) e (Some calls)) upto closed)
 
 all_written_aside : (path aside bytes : List ℕ) (calls : List DiskCall) → path ≢ aside → Writes aside bytes (Some []) (Some calls) None
     → IsWritten path aside bytes calls
@@ -136,7 +133,7 @@ all_written_aside path aside bytes calls apart writes =
 
 some_written_aside : (path aside bytes : List ℕ) (kind : ErrorKind) (calls : List DiskCall) → path ≢ aside
     → Writes aside bytes (Some []) (Some calls) (Some kind) → Beside path calls
-some_written_aside path aside bytes kind calls apart (inl made) = subst (Beside path) (sym (same_calls made)) (differ path aside apart, tt)
+some_written_aside path aside bytes kind calls apart (inl made) = subst (Beside path) (sym (some_same made)) (differ path aside apart, tt)
 some_written_aside path aside bytes kind calls apart (inr writes) =
     let some = writes.written in
     let h = in_aside path aside apart some.pieces some.writes in
@@ -152,9 +149,9 @@ written_beside path aside bytes (Some kind) calls apart writes = some_written_as
 -- a syncing touches nothing
 synced_beside : (path other : List ℕ) (failure : Option ErrorKind) (old calls : List DiskCall) → Syncs other (Some old) (Some calls) failure → Beside path old
     → Beside path calls
-synced_beside path other None old calls syncs beside = subst (Beside path) (sym (same_calls syncs)) (refl, (refl, (refl, beside)))
-synced_beside path other (Some kind) old calls (inl opened) beside = subst (Beside path) (sym (same_calls opened)) (refl, beside)
-synced_beside path other (Some kind) old calls (inr synced) beside = subst (Beside path) (sym (same_calls synced)) (refl, (refl, (refl, beside)))
+synced_beside path other None old calls syncs beside = subst (Beside path) (sym (some_same syncs)) (refl, (refl, (refl, beside)))
+synced_beside path other (Some kind) old calls (inl opened) beside = subst (Beside path) (sym (some_same opened)) (refl, beside)
+synced_beside path other (Some kind) old calls (inr synced) beside = subst (Beside path) (sym (some_same synced)) (refl, (refl, (refl, beside)))
 
 -- the aside is safe, and holds all
 record IsSafeAside (path aside bytes : List ℕ) (calls : List DiskCall) : Type 0 where
@@ -165,7 +162,7 @@ record IsSafeAside (path aside bytes : List ℕ) (calls : List DiskCall) : Type 
 aside_is_safe : (path aside bytes : List ℕ) (old calls : List DiskCall) → Syncs aside (Some old) (Some calls) None → IsWritten path aside bytes old
     → IsSafeAside path aside bytes calls
 aside_is_safe path aside bytes old calls syncs h =
-    subst (IsSafeAside path aside bytes) (sym (same_calls syncs)) (record {
+    subst (IsSafeAside path aside bytes) (sym (some_same syncs)) (record {
       beside = (refl, (refl, (refl, h.beside)));
       held = h.held;
       safe = ap (λ r. r || is_safe aside (Opened aside None ∷ old)) (same_bytes aside);
@@ -199,9 +196,9 @@ settled_whole dir path bytes entry failure old calls syncs h = by failure syncs
         (passed_by path bytes entry (Synced failure) (Opened dir None ∷ old) refl (opened None))
 
     by : (failure : Option ErrorKind) → Syncs dir (Some old) (Some calls) failure → Fronts path bytes entry calls
-    by None done = subst (Fronts path bytes entry) (sym (same_calls done)) (closed None)
-    by (Some kind) (inl unopened) = subst (Fronts path bytes entry) (sym (same_calls unopened)) (opened (Some kind))
-    by (Some kind) (inr unsynced) = subst (Fronts path bytes entry) (sym (same_calls unsynced)) (closed (Some kind))
+    by None done = subst (Fronts path bytes entry) (sym (some_same done)) (closed None)
+    by (Some kind) (inl unopened) = subst (Fronts path bytes entry) (sym (some_same unopened)) (opened (Some kind))
+    by (Some kind) (inr unsynced) = subst (Fronts path bytes entry) (sym (some_same unsynced)) (closed (Some kind))
 
 fronts_of : (dir path aside bytes : List ℕ) (entry : Option (List ℕ)) (calls : List DiskCall) → path ≢ aside → IsSaving dir path aside bytes calls
     → Fronts path bytes entry calls
@@ -211,12 +208,12 @@ fronts_of dir path aside bytes entry calls apart (failure, inr (written, writes,
     beside_whole path bytes entry calls
     (synced_beside path aside failure written calls syncs (written_beside path aside bytes None written apart writes))
 fronts_of dir path aside bytes entry calls apart (failure, inr (written, writes, inr (synced, syncs, inl renames))) =
-    subst (Fronts path bytes entry) (sym (same_calls renames))
+    subst (Fronts path bytes entry) (sym (some_same renames))
     (renamed_whole path aside bytes entry failure synced apart
     (aside_is_safe path aside bytes written synced syncs (all_written_aside path aside bytes written apart writes)))
 fronts_of dir path aside bytes entry calls apart (failure, inr (written, writes, inr (synced, syncs, inr (renamed, renames, settles)))) =
     settled_whole dir path bytes entry failure renamed calls settles
-    (subst (Fronts path bytes entry) (sym (same_calls renames))
+    (subst (Fronts path bytes entry) (sym (some_same renames))
     (renamed_whole path aside bytes entry None synced apart
     (aside_is_safe path aside bytes written synced syncs (all_written_aside path aside bytes written apart writes))))
 

@@ -4,19 +4,17 @@ use Rattle.std.proofs.lemmas.List.Sums.{fold-append}
 use Rattle.std.proofs.lemmas.Slice.Eq.{bytes_eq-Decides}
 use Rattle.std.specs.Prelude.{Decides, OnOk}
 use Rattle.std.specs.Global.{Global}
-use Rattle.std.specs.String.{string_bytes}
-use Rattle.std.specs.Process.{command_program, command_args, command_var, clears_env, exit_code, SameProgramAndArgs, SameOtherVars, SameEnv}
+use Rattle.std.specs.Process.{command_program, command_args, command_var, clears_env, exit_code, SameProgramAndArgs, SameEnv}
 use Rattle.std.specs.declared.io.ErrorKind.{ErrorKind}
 use Rattle.std.specs.declared.process.command.Command.{Command}
 use Rattle.std.specs.declared.process.status.ExitStatus.{ExitStatus}
 use Rattle.std.specs.declared.process.status.Output.{Output}
 use Rattle.world.specs.declared.faults.DeviceAnswer.{DeviceAnswer}
-use Rattle.world.specs.declared.hooking.HookVar.{HookVar}
 use Rattle.world.specs.declared.rows.HostRow.{HostRow}
-use Rattle.world.specs.HookCalls.{Variable, variable_of}
+use Rattle.world.specs.HookCalls.{Variable}
 use Rattle.world.specs.RowText.{row_text}
 use Rattle.edges.specs.Asking.{Does, failure_of, reason_of}
-use Rattle.edges.specs.ChildCalls.{ChildCall, Started, Waited, Printed, Start, RunsJob, Starts, start_of, printed, value_in}
+use Rattle.edges.specs.ChildCalls.{ChildCall, Started, Waited, Printed, Start, RunsJob, SaysAlso, Starts, start_of, printed, value_in}
 use Rattle.edges.specs.HostScripts.{RunsScript, EndsAs, Runs, ChangesRow, ListsRowsOf, words_of}
 use Rattle.edges.specs.Listings.{IsListing}
 use Rattle.edges.proofs.Doing.{then}
@@ -38,23 +36,22 @@ said_at name other value before now then_said true d same apart was = same (d.0 
 said_at name other value before now then_said false d same apart was =
     apart (λ e. let both : false ≡ true = d.1 (sym e) in cc) ∙ was
 
-pub job_goes_on : (program : List ℕ) (variables more : List Variable) (var : HookVar) (old new : Command Global) → more ≡ variables ++ variable_of var ∷ []
-    → RunsJob program variables (start_of old) → command_var new (string_bytes var.name) ≡ Some (Some (string_bytes var.value))
-    → SameOtherVars old new (string_bytes var.name) → SameProgramAndArgs old new → clears_env new ≡ clears_env old → RunsJob program more (start_of new)
-job_goes_on program variables more var old new is h set others same clears = record {
-  named = same.0 ∙ h.named;
-  no_words = same.1 ∙ h.no_words;
-  alone = ap not clears ∙ h.alone;
+pub job_goes_on : (program : List ℕ) (variables more : List Variable) (variable : Variable) (old new : Start) → more ≡ variables ++ variable ∷ []
+    → RunsJob program variables old → SaysAlso variable old new → RunsJob program more new
+job_goes_on program variables more variable old new is h also = record {
+  named = also.program ∙ h.named;
+  no_words = also.words ∙ h.no_words;
+  alone = also.inherits ∙ h.alone;
   said = λ name.
-      said_at (string_bytes var.name) name (string_bytes var.value) (value_in variables name) (command_var new name) (command_var old name)
-      (bytes_eq (string_bytes var.name) name) (bytes_eq-Decides (string_bytes var.name) name) (λ e. ap (command_var new) (sym e) ∙ set) (others name) (h.said name)
+      said_at variable.name name variable.value (value_in variables name) (new.said name) (old.said name) (bytes_eq variable.name name)
+      (bytes_eq-Decides variable.name name) (λ e. ap new.said (sym e) ∙ also.value) (also.others name) (h.said name)
       ∙ sym (ap (option_map Some) (ap (λ all. value_in all name) is ∙ one_more name));
 }
   where
-    one_more : (name : List ℕ) → value_in (variables ++ variable_of var ∷ []) name
-        ≡ (if bytes_eq (string_bytes var.name) name then Some (string_bytes var.value) else value_in variables name)
+    one_more : (name : List ℕ) → value_in (variables ++ variable ∷ []) name
+        ≡ (if bytes_eq variable.name name then Some variable.value else value_in variables name)
     one_more name =
-        fold-append (λ found variable. if bytes_eq variable.name name then Some variable.value else found) None variables (variable_of var ∷ [])
+        fold-append (λ found variable. if bytes_eq variable.name name then Some variable.value else found) None variables (variable ∷ [])
 
 pub job_started : {T : Type 0} (program : List ℕ) (variables : List Variable) (start : Start) (old new : Option (List ChildCall)) (x : T)
     → RunsJob program variables start → Does (Started start None ∷ []) old new → Starts program variables old new (Ok x)
@@ -65,7 +62,7 @@ pub script_begins : (program first : List ℕ) (made call : Command Global) → 
     → SameEnv made call → RunsScript program (first ∷ []) (start_of call)
 script_begins program first made call named none clears unsaid args same env = record {
   named = same ∙ named;
-  words = args ∙ ap (λ words. words ++ first ∷ []) none;
+  worded = args ∙ ap (λ words. words ++ first ∷ []) none;
   inherits = ap not (env.0 ∙ clears);
   unsaid = λ name. env.1 name ∙ unsaid name;
 }
@@ -75,7 +72,7 @@ pub script_goes_on : (program : List ℕ) (words more : List (List ℕ)) (word :
     → RunsScript program more (start_of new)
 script_goes_on program words more word old new is h args same env = record {
   named = same ∙ h.named;
-  words = args ∙ ap (λ words. words ++ word ∷ []) h.words ∙ sym is;
+  worded = args ∙ ap (λ words. words ++ word ∷ []) h.worded ∙ sym is;
   inherits = ap not env.0 ∙ h.inherits;
   unsaid = λ name. env.1 name ∙ h.unsaid name;
 }

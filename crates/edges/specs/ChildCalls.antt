@@ -1,6 +1,6 @@
 -- The calls of the system on children of this process, with their answers, and what hooks want of them. `old` and `new`
 -- are the calls before and after, the last one first.
-use Rattle.std.specs.Prelude.{ℕ, ℤ, ◌+◌, Bool, true, false, not, ◌≡◌, ◌⊎◌, List, [], ◌∷◌, fold, bytes_eq, option_map, unsigned_abs, Option, None, Some, Result, Ok, Err, if◌then◌else◌}
+use Rattle.std.specs.Prelude.{ℕ, ℤ, ◌+◌, Bool, true, false, not, ◌≡◌, ◌≢◌, ◌⊎◌, List, [], ◌∷◌, fold, bytes_eq, option_map, unsigned_abs, Option, None, Some, Result, Ok, Err, if◌then◌else◌}
 use Rattle.std.specs.Global.{Global}
 use Rattle.std.specs.Process.{command_program, command_args, command_var, clears_env, exit_code, exit_signal}
 use Rattle.std.specs.declared.io.ErrorKind.{ErrorKind}
@@ -63,6 +63,14 @@ script_run own (b ∷ named) = b ∷ named
 abbrev pub value_in : List Variable → (name : List ℕ) → Option (List ℕ)
 value_in variables name =
     fold (λ found variable. if bytes_eq variable.name name then Some variable.value else found) None variables
+
+-- of one more variable its value is said, and of all others what was said before
+pub record SaysAlso (variable : Variable) (old new : Start) : Type 0 where
+  pub program : new.program ≡ old.program
+  pub words : new.words ≡ old.words
+  pub inherits : new.inherits ≡ old.inherits
+  pub value : new.said variable.name ≡ Some (Some variable.value)
+  pub others : (name : List ℕ) → name ≢ variable.name → new.said name ≡ old.said name
 
 -- a child has these variables, and no others
 pub record RunsJob (program : List ℕ) (variables : List Variable) (start : Start) : Type 0 where

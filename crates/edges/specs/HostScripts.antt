@@ -19,7 +19,7 @@ use Rattle.edges.specs.declared.commands.Change.TheVariants.{Add, Remove}
 -- a script runs with these words, in the environment of this process
 pub record RunsScript (script : List ℕ) (words : List (List ℕ)) (start : Start) : Type 0 where
   pub named : start.program ≡ script
-  pub words : start.words ≡ words
+  pub worded : start.words ≡ words
   pub inherits : start.inherits ≡ true
   pub unsaid : (name : List ℕ) → start.said name ≡ None
 

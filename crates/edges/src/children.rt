@@ -1,8 +1,8 @@
-ghost use Rattle.std.specs.Prelude.{◌≡◌, ◌≤◌, true, false, map, IfOk};
+ghost use Rattle.std.specs.Prelude.{◌≡◌, ◌≤◌, true, false, map, IfOk, OnOk};
 ghost use Rattle.std.specs.String.{string_bytes};
 ghost use Rattle.world.specs.Causes.{HasCause, HasDeviceCause};
 ghost use Rattle.world.specs.HookCalls.{variable_of, RunsIfDone, RunsOn};
-ghost use Rattle.edges.specs.ChildCalls.{script_run, shell_status, start_of, RunsJob, Starts, Polls, Leaves};
+ghost use Rattle.edges.specs.ChildCalls.{script_run, shell_status, start_of, RunsJob, SaysAlso, Starts, Polls, Leaves};
 ghost use Rattle.std.specs.Process.{exit_code, exit_signal};
 
 use crate::faults::{Faults, reason};
@@ -50,6 +50,14 @@ fn script_of<'a>(own: &'a str, named: &'a str) -> &'a str
     if named.is_empty() { own } else { named }
 }
 
+/// Says one more variable of a call.
+fn say(call: &mut Command, var: &HookVar) -> Result<(), AllocError>
+    ensures { OnOk result (SaysAlso (variable_of var.now) (start_of call.old) (start_of call.new)) }
+{
+    call.env(&var.name, &var.value)?;
+    Ok(())
+}
+
 /// The call of a script with these variables and no others.
 #[tactic(auto, using(crate::proofs::ScriptCalls::job_begins, crate::proofs::ScriptCalls::job_goes_on))]
 fn job_call(alloc: Global, script: &str, vars: &[HookVar]) -> Result<Command, AllocError>
@@ -58,7 +66,7 @@ fn job_call(alloc: Global, script: &str, vars: &[HookVar]) -> Result<Command, Al
     let mut call = Command::new(alloc, script)?;
     call.env_clear();
     for var in vars {
-        call.env(&var.name, &var.value)?;
+        say(&mut call, var)?;
     }
     Ok(call)
 }
