@@ -1,5 +1,5 @@
 -- The calls of scripts, word by word and variable by variable.
-use Rattle.std.proofs.Common.{◌≡◌, ◌≢◌, ◌↔◌, ℕ, Bool, true, false, not, pos, inl, inr, fold, bytes_eq, codes, List, [], ◌∷◌, ◌++◌, Option, None, Some, Result, Ok, Err, option_map, if◌then◌else◌, refl, sym, ap, ◌∙◌}
+use Rattle.std.proofs.Common.{◌≡◌, ◌≢◌, ◌↔◌, ℕ, Bool, true, false, not, pos, inl, inr, fold, bytes_eq, codes, List, [], ◌∷◌, ◌++◌, Option, None, Some, Result, Ok, Err, option_map, cond, refl, sym, ap, ◌∙◌}
 use Rattle.std.proofs.lemmas.List.Sums.{fold-append}
 use Rattle.std.proofs.lemmas.Slice.Eq.{bytes_eq-Decides}
 use Rattle.std.specs.Prelude.{Decides, OnOk}
@@ -31,7 +31,7 @@ job_begins program made call named none same clears unsaid = record {
 -- what is said of a name after one more variable
 said_at : (name other value : List ℕ) (before : Option (List ℕ)) (now then_said : Option (Option (List ℕ))) (r : Bool) → Decides r (name ≡ other)
     → (name ≡ other → now ≡ Some (Some value)) → (other ≢ name → now ≡ then_said) → then_said ≡ option_map Some before
-    → now ≡ option_map Some (if r then Some value else before)
+    → now ≡ option_map Some (cond r (Some value) before)
 said_at name other value before now then_said true d same apart was = same (d.0 refl)
 said_at name other value before now then_said false d same apart was =
     apart (λ e. let both : false ≡ true = d.1 (sym e) in cc) ∙ was
@@ -49,9 +49,9 @@ job_goes_on program variables more variable old new is h also = record {
 }
   where
     one_more : (name : List ℕ) → value_in (variables ++ variable ∷ []) name
-        ≡ (if bytes_eq variable.name name then Some variable.value else value_in variables name)
+        ≡ cond (bytes_eq variable.name name) (Some variable.value) (value_in variables name)
     one_more name =
-        fold-append (λ found variable. if bytes_eq variable.name name then Some variable.value else found) None variables (variable ∷ [])
+        fold-append (λ found variable. cond (bytes_eq variable.name name) (Some variable.value) found) None variables (variable ∷ [])
 
 pub job_started : {T : Type 0} (program : List ℕ) (variables : List Variable) (start : Start) (old new : Option (List ChildCall)) (x : T)
     → RunsJob program variables start → Does (Started start None ∷ []) old new → Starts program variables old new (Ok x)
@@ -108,8 +108,8 @@ printed_so script start output (Ok x) old new before after call asked done listi
 )
 printed_so script start output (Err answer) old new before after call asked done listing = inr (start, call, (printed (Ok output), tt, asked))
 
-pub unprinted_so : {T : Type 0} (script : List ℕ) (start : Start) (kind : ErrorKind) (answer : DeviceAnswer) (old new : Option (List ChildCall))
+pub unprinted_so : (T : Type 0) (script : List ℕ) (start : Start) (kind : ErrorKind) (answer : DeviceAnswer) (old new : Option (List ChildCall))
     (before after : List HostRow)
     → RunsScript script (codes "host-list" ∷ []) start → Does (Printed start (Err kind) ∷ []) old new → answer ≡ reason_of kind
     → ListsRowsOf {T = T} script old new before after (Err answer)
-unprinted_so script start kind answer old new before after call asked why = inr (start, call, (Err kind, why, asked))
+unprinted_so T script start kind answer old new before after call asked why = inr (start, call, (Err kind, why, asked))

@@ -3,7 +3,6 @@
 ghost use Rattle.edges.specs.Crashes.{SavesWhole};
 
 /// Law: a file that is saved as a store's calls save it is whole on the disk after each call of the system.
-#[tactic(auto, using(crate::proofs::CrashSteps::saves_whole))]
 pub fn savings_are_whole()
     ensures { SavesWhole }
 {}
