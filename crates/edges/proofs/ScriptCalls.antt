@@ -1,5 +1,7 @@
 -- The calls of scripts, word by word and variable by variable.
-use Rattle.std.proofs.Common.{◌≡◌, ◌≢◌, ◌↔◌, ℕ, Bool, true, false, not, pos, inl, inr, fold, bytes_eq, codes, List, [], ◌∷◌, ◌++◌, Option, None, Some, Result, Ok, Err, option_map, cond, refl, sym, ap, ◌∙◌}
+use Rattle.std.proofs.Common.{◌≡◌, ◌≢◌, ◌↔◌, ℕ, Bool, true, false, not, pos, inl, inr, fold, bytes_eq, codes, List, [], ◌∷◌, ◌++◌, Option, None, Some, Result, Ok, Err, option_map, cond, map, take, length, get_or, add-one, ◌+◌, ◌<◌, refl, sym, ap, ◌∙◌}
+use Rattle.std.proofs.Math.Seq.{take-suc}
+use Rattle.std.proofs.lemmas.List.{map-append}
 use Rattle.std.proofs.lemmas.List.Sums.{fold-append}
 use Rattle.std.proofs.lemmas.Slice.Eq.{bytes_eq-Decides}
 use Rattle.std.specs.Prelude.{Decides, OnOk}
@@ -11,7 +13,8 @@ use Rattle.std.specs.declared.process.status.ExitStatus.{ExitStatus}
 use Rattle.std.specs.declared.process.status.Output.{Output}
 use Rattle.world.specs.declared.faults.DeviceAnswer.{DeviceAnswer}
 use Rattle.world.specs.declared.rows.HostRow.{HostRow}
-use Rattle.world.specs.HookCalls.{Variable}
+use Rattle.world.specs.declared.hooking.HookVar.{HookVar}
+use Rattle.world.specs.HookCalls.{Variable, variable_of}
 use Rattle.world.specs.RowText.{row_text}
 use Rattle.edges.specs.Asking.{Does, failure_of, reason_of}
 use Rattle.edges.specs.ChildCalls.{ChildCall, Started, Waited, Printed, Start, RunsJob, SaysAlso, Starts, start_of, printed, value_in}
@@ -52,6 +55,13 @@ job_goes_on program variables more variable old new is h also = record {
         ≡ cond (bytes_eq variable.name name) (Some variable.value) (value_in variables name)
     one_more name =
         fold-append (λ found variable. cond (bytes_eq variable.name name) (Some variable.value) found) None variables (variable ∷ [])
+
+-- one more of them
+pub one_taken : (vars : List HookVar) (i : ℕ) (var : HookVar) → var ≡ get_or vars i var → i < length vars
+    → map variable_of (take (i + 1) vars) ≡ map variable_of (take i vars) ++ variable_of var ∷ []
+one_taken vars i var is lt =
+    ap (map variable_of) (rw (add-one i) (take-suc vars i var lt)) ∙ map-append variable_of (take i vars) (get_or vars i var ∷ [])
+    ∙ ap (λ v. map variable_of (take i vars) ++ variable_of v ∷ []) (sym is)
 
 pub job_started : {T : Type 0} (program : List ℕ) (variables : List Variable) (start : Start) (old new : Option (List ChildCall)) (x : T)
     → RunsJob program variables start → Does (Started start None ∷ []) old new → Starts program variables old new (Ok x)

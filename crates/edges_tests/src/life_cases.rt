@@ -60,8 +60,11 @@ fn has_lines(text: &str, lines: &[&str]) -> bool {
     true
 }
 
-/// What a life with a lease, hooks and a stop says, in which the first sync of the lease's file fails.
-const SAID: [&str; 14] = [
+/// The fourth piece of the lease's file can't be written, and when it's written anew it can't be synced.
+const FAILING: [(u64, ErrorKind); 2] = [(9, ErrorKind::StorageFull), (51, ErrorKind::Other)];
+
+/// What a life with a lease, hooks and a stop says, with these failures.
+const SAID: [&str; 16] = [
     "\nstore read eth0.lease4 none\n",
     "\nhost list ok 0\n",
     "\nhook start 1 PREINIT eth0 ok\n",
@@ -69,6 +72,8 @@ const SAID: [&str; 14] = [
     "\nhook poll 1 ended 0\n",
     "\nhost add addr 1 10.0.0.50/24 ok\n",
     "\nhost add route 1 10.0.0.0/24 metric 1001 ok\n",
+    "\nstore write eth0.lease4 ",
+    " failed\n",
     "\nstore sync eth0.lease4 failed\n",
     "\nstore sync eth0.lease4 ok\n",
     "\nstore rename eth0.lease4 ok\n",
@@ -87,11 +92,10 @@ fn a_life_over_a_machine_in_memory(rt: HostRuntime) -> Result<(), Fail> {
     }
     let mut input = MemSource::new(alloc, CONF.to_vec(alloc)?, Vec::new(alloc));
     let mut out = MemSink::new(alloc, Vec::new(alloc));
-    let mut machine = machine(alloc, &[(9, ErrorKind::Other)]).expect(&rt, "memory");
+    let mut machine = machine(alloc, &FAILING).expect(&rt, "memory");
     let status = run(alloc, &words, &mut input, &mut out, &mut machine, 1000);
     assert_eq!(rt; status, Status::Done);
     let text = String::from_utf8_lossy(alloc, out.bytes())?;
-    println!(rt; "{text}")?;
     assert!(rt; has_lines(&text, &SAID));
     // the file that was renamed is whole
     let mut bytes = Vec::new(alloc);
