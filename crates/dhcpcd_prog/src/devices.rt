@@ -16,7 +16,7 @@ use world::NoMemory;
 pub type Machine<'a> = Devices<
     LoopLink<SystemLoopback<&'a HostRuntime>, ChildWatch<SystemProcess>>,
     FolderStore<SystemDisk<&'a HostRuntime>>,
-    CommandHost<&'a HostRuntime>,
+    CommandHost<SystemChildren<&'a HostRuntime>>,
     ChildHooks<SystemChildren<&'a HostRuntime>>,
 >;
 
@@ -55,7 +55,7 @@ pub fn devices<'a>(rt: &'a HostRuntime, words: &[String]) -> Result<Machine<'a>,
             word(words, 2),
         ),
         store: FolderStore::new(rt.alloc(), SystemDisk::new(rt), word(words, 3))?,
-        host: CommandHost::new(rt, script)?,
+        host: CommandHost::new(rt.alloc(), SystemChildren::new(rt)?, script)?,
         hooks,
     })
 }

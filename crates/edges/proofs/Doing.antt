@@ -5,9 +5,10 @@ use Rattle.world.specs.declared.faults.DeviceAnswer.{DeviceAnswer}
 use Rattle.edges.specs.Asking.{Does, Answered}
 use Rattle.edges.specs.Counts.{AnswersAs}
 use Rattle.edges.specs.ChildCalls.{ChildCall, Killed, Waited, Leaves}
-use Rattle.edges.specs.WireCalls.{WireCall, Limited, Received, Receives}
-use Rattle.edges.specs.declared.loopback.Sender.{Sender}
-use Rattle.edges.specs.declared.loopback.TheConstants.{LOOPBACK}
+use Rattle.edges.specs.WireCalls.{WireCall, Limited, Received, Receives, IsLoopback}
+use Rattle.std.specs.Net.Socket.{socket_port}
+use Rattle.std.specs.declared.net.socket_addr.SocketAddr.{SocketAddr}
+use Rattle.std.specs.declared.process.status.ExitStatus.{ExitStatus}
 use Rattle.std.specs.Prelude.{IfSome}
 
 pub nothing : {C : Type 0} (old : Option (List C)) → Does [] old old
@@ -26,13 +27,13 @@ answered_so asked unasked None (Err answer) did answers = absurd answers
 answered_so asked unasked (Some kind) (Ok x) did answers = absurd answers
 answered_so asked unasked (Some kind) (Err answer) did answers = rw answers (kind, did)
 
-pub ended_so : (failure : Option ErrorKind) (old mid new : Option (List ChildCall)) → Does (Killed None ∷ []) old mid → Does (Waited failure ∷ []) mid new
+pub ended_so : (answer : Result ExitStatus ErrorKind) (old mid new : Option (List ChildCall)) → Does (Killed None ∷ []) old mid → Does (Waited answer ∷ []) mid new
     → Leaves true old new
-ended_so failure old mid new killed waited = inl (failure, then (Waited failure) (Killed None ∷ []) old mid new killed waited)
+ended_so answer old mid new killed waited = inl (answer, then (Waited answer) (Killed None ∷ []) old mid new killed waited)
 
 -- what was received of the peer, or of another
-pub received_so : (millis peer : ℕ) (buffer : List ℕ) (size : ℕ) (sender : Sender) (got : Option ℕ) (old mid new : Option (List WireCall))
-    → IfSome got (λ len. (len ≡ size) × (sender.address ≡ LOOPBACK) × (sender.port ≡ peer)) → Does (Limited millis None ∷ []) old mid
+pub received_so : (millis peer : ℕ) (buffer : List ℕ) (size : ℕ) (sender : SocketAddr) (got : Option ℕ) (old mid new : Option (List WireCall))
+    → IfSome got (λ len. (len ≡ size) × IsLoopback sender × (socket_port sender ≡ peer)) → Does (Limited millis None ∷ []) old mid
     → Does (Received (Ok (record { bytes = take size buffer; sender = sender })) ∷ []) mid new → Receives millis peer buffer old new (Ok got)
 received_so millis peer buffer size sender None old mid new is limited received =
     inl (

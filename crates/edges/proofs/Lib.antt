@@ -1,5 +1,7 @@
 pub mod Causing
 pub mod HeldRows
+pub mod CrashSteps
 pub mod Doing
+pub mod ScriptCalls
 pub mod FolderSteps
 pub mod ListingRows

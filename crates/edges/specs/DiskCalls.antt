@@ -1,7 +1,11 @@
 -- The calls of the system on files, with their answers.
-use Rattle.std.specs.Prelude.{ℕ, Bool, true, false, List, [], ◌∷◌, ◌++◌, take, Option, Some, Result, Ok, Err, String, option_map}
+use Rattle.std.specs.Prelude.{ℕ, Bool, true, false, ◌≡◌, List, [], ◌∷◌, ◌++◌, take, Option, None, Some, Result, Ok, Err, String, option_map}
 use Rattle.std.specs.Global.{Global}
 use Rattle.std.specs.String.{string_bytes}
+use Rattle.std.specs.Fs.{dir_entry_name}
+use Rattle.std.specs.IoError.{error_kind}
+use Rattle.std.specs.declared.fs.dir.DirEntry.{DirEntry}
+use Rattle.std.specs.declared.io.Error.{Error}
 use Rattle.std.specs.declared.io.ErrorKind.{ErrorKind}
 use Rattle.std.specs.declared.io.ErrorKind.TheVariants as kind
 
@@ -34,6 +38,15 @@ read_into buffer (Err kind) = Err kind
 abbrev pub name_given : Result (Option (String Global)) ErrorKind → Result (Option (List ℕ)) ErrorKind
 name_given (Ok name) = Ok (option_map string_bytes name)
 name_given (Err kind) = Err kind
+
+-- the name of an entry that a folder has, no entry, or why none can be had
+abbrev pub NamesEntry : {R A F D : Type 0} → Option (Result (DirEntry R A F D) Error)
+    → Result (Option (String Global)) ErrorKind → Type 0
+NamesEntry None result = result ≡ Ok None
+NamesEntry (Some (Err error)) result = result ≡ Err (error_kind error)
+NamesEntry (Some (Ok entry)) (Ok (Some name)) = string_bytes name ≡ dir_entry_name entry
+NamesEntry (Some (Ok entry)) (Ok None) = ⊥
+NamesEntry (Some (Ok entry)) (Err failure) = failure ≡ kind.OutOfMemory
 
 -- what readings gave
 abbrev pub read_by : List DiskCall → List ℕ

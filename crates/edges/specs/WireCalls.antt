@@ -2,13 +2,14 @@
 -- loopback link wants of them. `old` and `new` are the calls before and after, the last one first.
 use Rattle.std.specs.Prelude.{ℕ, Bool, true, false, ◌≡◌, ◌≤◌, ◌⊎◌, ◌/◌, List, [], ◌∷◌, take, Option, None, Some, Result, Ok, Err}
 use Rattle.std.specs.declared.io.ErrorKind.{ErrorKind}
-use Rattle.std.specs.Duration.{as_nanos}
-use Rattle.std.specs.declared.time.Duration.{Duration}
+use Rattle.std.specs.Net.Addr.{ipv4_bits}
+use Rattle.std.specs.Net.Socket.{v4_ip, socket_port}
+use Rattle.std.specs.declared.net.socket_addr.SocketAddr.{SocketAddr}
+use Rattle.std.specs.declared.net.socket_addr.SocketAddr.TheVariants.{V4, V6}
 use Rattle.std.specs.declared.time.Instant.{Instant}
-use Rattle.std.specs.Time.{instant_nanos}
+use Rattle.std.specs.declared.time.SystemTime.{SystemTime}
+use Rattle.std.specs.Time.{instant_nanos, system_time_nanos}
 use Rattle.net_types.specs.declared.fault.Failed.{Failed}
-use Rattle.edges.specs.declared.loopback.Sender.{Sender}
-use Rattle.edges.specs.declared.loopback.Arrival.{Arrival}
 use Rattle.edges.specs.declared.loopback.TheConstants.{LOOPBACK}
 use Rattle.world.specs.declared.faults.DeviceAnswer.{DeviceAnswer}
 use Rattle.world.specs.declared.faults.DeviceAnswer.TheVariants as Answer
@@ -22,7 +23,7 @@ use Rattle.edges.specs.Waiting.{is_over}
 -- a datagram as it came, cut to a buffer
 pub record Datagram : Type 0 where
   pub bytes : List ℕ
-  pub sender : Sender
+  pub sender : SocketAddr
 
 -- each with why it gave nothing, where it did
 pub data WireCall : Type 0 where
@@ -37,12 +38,12 @@ pub data WireCall : Type 0 where
   WallRead : (answer : Result ℕ ErrorKind) → WireCall
   SteadyRead : (answer : Result ℕ ErrorKind) → WireCall
 
-abbrev pub arrived : (buffer : List ℕ) → Result Arrival ErrorKind → Result Datagram ErrorKind
-arrived buffer (Ok arrival) = Ok (record { bytes = take arrival.len buffer; sender = arrival.sender })
+abbrev pub arrived : (buffer : List ℕ) → Result (ℕ × SocketAddr) ErrorKind → Result Datagram ErrorKind
+arrived buffer (Ok (len, sender)) = Ok (record { bytes = take len buffer; sender = sender })
 arrived buffer (Err kind) = Err kind
 
-abbrev pub wall_nanos : Result Duration ErrorKind → Result ℕ ErrorKind
-wall_nanos (Ok time) = Ok (as_nanos time)
+abbrev pub wall_nanos : Result SystemTime ErrorKind → Result ℕ ErrorKind
+wall_nanos (Ok time) = Ok (system_time_nanos time)
 wall_nanos (Err kind) = Err kind
 
 abbrev pub steady_nanos : Result Instant ErrorKind → Result ℕ ErrorKind
@@ -56,11 +57,16 @@ Binds true port old new result = new ≡ old
 Binds false port old new (Ok x) = Does (Bound port None ∷ []) old new
 Binds false port old new (Err e) = (kind : ErrorKind) × Does (Bound port (Some kind) ∷ []) old new
 
+-- an address is 127.0.0.1
+abbrev pub IsLoopback : SocketAddr → Type 0
+IsLoopback (V4 address) = ipv4_bits (v4_ip address) ≡ LOOPBACK
+IsLoopback (V6 address) = ⊥
+
 -- a datagram of the peer came within so many milliseconds
 pub record Hears (millis peer : ℕ) (bytes : List ℕ) (old new : Option (List WireCall)) : Type 0 where
-  pub sender : Sender
-  pub here : sender.address ≡ LOOPBACK
-  pub port : sender.port ≡ peer
+  pub sender : SocketAddr
+  pub here : IsLoopback sender
+  pub port : socket_port sender ≡ peer
   pub asked : Does (Received (Ok (record { bytes = bytes; sender = sender })) ∷ Limited millis None ∷ []) old new
 
 -- Of what others send nothing is taken. A failure that says that nothing came is none, and any other one is.

@@ -1,18 +1,22 @@
-ghost use Rattle.std.specs.Prelude.{◌≡◌, ◌≤◌, true, false, map, IfOk};
+ghost use Rattle.std.specs.Prelude.{◌≡◌, ◌≤◌, true, false, map, IfOk, OnOk};
 ghost use Rattle.std.specs.String.{string_bytes};
 ghost use Rattle.world.specs.Causes.{HasCause, HasDeviceCause};
 ghost use Rattle.world.specs.HookCalls.{variable_of, RunsIfDone, RunsOn};
-ghost use Rattle.edges.specs.ChildCalls.{script_run, Starts, Polls, Leaves};
+ghost use Rattle.edges.specs.ChildCalls.{script_run, shell_status, start_of, RunsJob, SaysAlso, Starts, Polls, Leaves};
+ghost use Rattle.std.specs.Process.{exit_code, exit_signal};
 
 use crate::faults::{Faults, reason};
 use crate::processes::Children;
-use std::alloc::Global;
+use std::alloc::{AllocError, Global};
 use std::io::ErrorKind;
-use world::{DeviceAnswer, Failed, HookJob, Hooks, NoMemory, Poll};
+use std::os::unix::process::ExitStatusExt;
+use std::process::{Command, ExitStatus};
+use world::{DeviceAnswer, Failed, HookJob, HookVar, Hooks, NoMemory, Poll};
 
 /// Hook scripts as children of this process, one at a time.
 #[derive(Drop)]
 pub struct ChildHooks<C: Children + Drop> {
+    alloc: Global,
     children: C,
     script: String,
     running: bool,
@@ -28,6 +32,7 @@ impl<C: Children + Drop> ChildHooks<C> {
     {
         match String::from_str(alloc, script) {
             Ok(script) => Ok(ChildHooks {
+                alloc,
                 children,
                 script,
                 running: false,
@@ -45,15 +50,51 @@ fn script_of<'a>(own: &'a str, named: &'a str) -> &'a str
     if named.is_empty() { own } else { named }
 }
 
+/// Says one more variable of a call.
+fn say(call: &mut Command, var: &HookVar) -> Result<(), AllocError>
+    ensures { OnOk result (SaysAlso (variable_of var.now) (start_of call.old) (start_of call.new)) }
+{
+    call.env(&var.name, &var.value)?;
+    Ok(())
+}
+
+/// The call of a script with these variables and no others.
+#[tactic(auto, using(crate::proofs::ScriptCalls::job_begins, crate::proofs::ScriptCalls::job_goes_on))]
+fn job_call(alloc: Global, script: &str, vars: &[HookVar]) -> Result<Command, AllocError>
+    ensures { IfOk result (λ call. RunsJob script.now (map variable_of vars.now) (start_of call)) }
+{
+    let mut call = Command::new(alloc, script)?;
+    call.env_clear();
+    for var in vars {
+        say(&mut call, var)?;
+    }
+    Ok(call)
+}
+
+/// What a shell adds to the number of the signal that ended a child.
+const BY_SIGNAL: u32 = 128;
+
+/// The status that a child ended with, as a shell tells it.
+fn status_number(end: ExitStatus) -> u32
+    ensures { result ≡ shell_status (exit_code end) (exit_signal end) }
+{
+    match (end.code(), end.signal()) {
+        (Some(code), _) => code.unsigned_abs(),
+        (None, Some(signal)) => BY_SIGNAL.saturating_add(signal.unsigned_abs()),
+        (None, None) => BY_SIGNAL,
+    }
+}
+
 /// Ends the child and waits for it. One that can't be ended isn't waited for.
 fn end<C: Children>(children: &mut C) -> Result<(), ErrorKind>
     ensures { Leaves true (C.calls children.old) (C.calls children.new) }
 {
     children.kill()?;
-    children.wait()
+    children.wait()?;
+    Ok(())
 }
 
-#[tactic(auto, using(crate::proofs::Causing::counted_cause))]
+#[tactic(auto, using(crate::proofs::Causing::counted_cause, crate::proofs::ScriptCalls::job_started))]
 impl<C: Children + Drop> Hooks for ChildHooks<C> {
     ghost use Rattle.std.specs.Prelude.{None};
 
@@ -75,7 +116,10 @@ impl<C: Children + Drop> Hooks for ChildHooks<C> {
     {
         self.faults.room()?;
         let script = script_of(&self.script, &job.script);
-        match self.children.start(script, false, &job.vars) {
+        let Ok(mut call) = job_call(self.alloc, script, &job.vars) else {
+            return Err(DeviceAnswer::NoMemory);
+        };
+        match self.children.start(&mut call) {
             Ok(()) => {
                 self.running = true;
                 Ok(())
@@ -93,9 +137,9 @@ impl<C: Children + Drop> Hooks for ChildHooks<C> {
     {
         match self.children.ask() {
             Ok(None) => Ok(Poll::Running),
-            Ok(Some(status)) => {
+            Ok(Some(end)) => {
                 self.running = false;
-                Ok(Poll::Ended(status))
+                Ok(Poll::Ended(status_number(end)))
             }
             Err(_) => self.faults.failed(Poll::Running),
         }

@@ -1,4 +1,4 @@
-ghost use Rattle.std.specs.Prelude.{◌≡◌, ◌++◌, All, IfOk, OnOk, OnErr, None, IfSome};
+ghost use Rattle.std.specs.Prelude.{◌≡◌, pos, [], ◌∷◌, ◌++◌, map, codes, List, All, IfOk, OnOk, OnErr, None, Some, IfSome};
 ghost use Rattle.std.specs.BTreeSet.{IsOrdered};
 ghost use Rattle.std.specs.String.{string_bytes};
 ghost use Rattle.world.specs.Causes.{HasDeviceCause};
@@ -7,15 +7,21 @@ ghost use Rattle.world.specs.RowOrder.{row_cmp};
 ghost use Rattle.world.specs.RowText.{row_text};
 ghost use Rattle.world.specs.Rows.{IsRow};
 ghost use Rattle.script_model.specs.RowSpellings.{SpellsRow};
+ghost use Rattle.std.specs.Process.{exit_code};
+ghost use Rattle.edges.specs.ChildCalls.{start_of};
+ghost use Rattle.edges.specs.Asking.{failure_of, Answered};
+ghost use Rattle.edges.specs.HostScripts.{change_word, words_of, RunsScript, EndsAs, Runs, ChangesRow, ListsRowsOf};
 ghost use Rattle.edges.specs.Listings.{IsListing};
 
 use crate::faults::{Faults, reason};
+use crate::processes::Children;
 use net_types::split_at_byte;
 use row_texts::{print_row, read_row};
 use std::alloc::{AllocError, Global};
 use std::collections::BTreeSet;
-use std::process::{Command, Processes, Stdio};
-use std::{io, str};
+use std::io::ErrorKind;
+use std::process::{Command, ExitStatus, Output};
+use std::str;
 use world::{DeviceAnswer, Host, HostRow, NoMemory};
 
 /// The row on a line of a listing.
@@ -69,15 +75,41 @@ fn append_rows(
     }
 }
 
-/// The words of a row: its text.
-fn words_of(alloc: Global, row: &HostRow) -> Result<String, AllocError>
-    ensures { IfOk result (λ words. string_bytes words ≡ row_text row.now) }
+/// The text of a row.
+fn text_of(alloc: Global, row: &HostRow) -> Result<String, AllocError>
+    ensures { IfOk result (λ text. string_bytes text ≡ row_text row.now) }
 {
-    let mut words = String::new(alloc);
-    match print_row(row, &mut words) {
-        Ok(()) => Ok(words),
+    let mut text = String::new(alloc);
+    match print_row(row, &mut text) {
+        Ok(()) => Ok(text),
         Err(NoMemory) => Err(AllocError),
     }
+}
+
+/// What is between the blanks of a text.
+fn words_of(alloc: Global, text: &str) -> Result<Vec<&str>, AllocError>
+    ensures { IfOk result (λ words. map (λ word. word.now) words.items ≡ words_of text.now) }
+{
+    text.split(' ').collect(alloc)
+}
+
+/// The call of a script with these words.
+#[tactic(auto, using(crate::proofs::ScriptCalls::script_begins, crate::proofs::ScriptCalls::script_goes_on))]
+fn script_call(
+    alloc: Global,
+    script: &str,
+    first: &str,
+    words: &[&str],
+) -> Result<Command, AllocError>
+    ensures { IfOk result
+        (λ call. RunsScript script.now (first.now ∷ map (λ word. word.now) words.now) (start_of call)) }
+{
+    let mut call = Command::new(alloc, script)?;
+    call.arg(first)?;
+    for word in words {
+        call.arg(*word)?;
+    }
+    Ok(call)
 }
 
 /// What a script is to do with a row.
@@ -88,7 +120,9 @@ enum Change {
 }
 
 impl Change {
-    fn word(self) -> &'static str {
+    fn word(self) -> &'static str
+        ensures { result.now ≡ change_word self }
+    {
         match self {
             Change::Add => "host-add",
             Change::Remove => "host-del",
@@ -102,31 +136,53 @@ fn change_call(
     script: &str,
     change: Change,
     row: &HostRow,
-) -> Result<Command, AllocError> {
-    let words = words_of(alloc, row)?;
-    let mut call = Command::new(alloc, script)?;
-    call.arg(change.word())?;
-    for word in words.as_str().split(' ') {
-        call.arg(word)?;
-    }
-    call.stdin(Stdio::null()).stdout(Stdio::null());
-    Ok(call)
+) -> Result<Command, AllocError>
+    ensures { IfOk result
+        (λ call. RunsScript script.now (change_word change ∷ words_of (row_text row.now)) (start_of call)) }
+{
+    let text = text_of(alloc, row)?;
+    let words = words_of(alloc, &text)?;
+    script_call(alloc, script, change.word(), &words)
 }
 
-/// What a script lists.
-fn listing(rt: &(impl Processes + AllocGlobal), script: &str) -> Result<Vec<u8>, DeviceAnswer> {
-    match listed(rt, script) {
-        Ok(output) if output.status.success() => Ok(output.stdout),
-        Ok(_) => Err(DeviceAnswer::Failed),
-        Err(error) => Err(reason(error.kind())),
+/// How a script ended: without success where its status isn't 0.
+fn ended(answer: Result<ExitStatus, ErrorKind>) -> Result<(), ErrorKind>
+    ensures { EndsAs answer (failure_of result) }
+{
+    if answer?.success() {
+        Ok(())
+    } else {
+        Err(ErrorKind::Other)
     }
 }
 
-fn listed(rt: &(impl Processes + AllocGlobal), script: &str) -> io::Result<std::process::Output> {
-    Command::new(rt.alloc(), script)?
-        .arg("host-list")?
-        .stderr(Stdio::inherit())
-        .output(rt)
+/// Runs a script to its end.
+#[tactic(auto, using(crate::proofs::ScriptCalls::not_started, crate::proofs::ScriptCalls::ran))]
+fn run<C: Children>(children: &mut C, call: &mut Command) -> Result<(), ErrorKind>
+    ensures { Runs (start_of call.old) (C.calls children.old) (C.calls children.new) (failure_of result) }
+{
+    children.start(call)?;
+    ended(children.wait())
+}
+
+/// Appends the rows of a listing that a script printed, or nothing where it is none.
+#[tactic(auto, using(crate::proofs::HeldRows::lists_held))]
+fn append_printed(
+    alloc: Global,
+    output: &Output,
+    rows: &mut Vec<HostRow>,
+) -> Result<(), DeviceAnswer>
+    ensures listed { Lists None None rows.old.items rows.new.items result }
+    ensures done { OnOk result (exit_code output.now.status ≡ Some (pos 0)) }
+    ensures listing { OnOk result
+        ((kept : List HostRow) × IsListing output.now.stdout.items kept
+        × (rows.new.items ≡ rows.old.items ++ kept)) }
+{
+    if !output.status.success() {
+        return Err(DeviceAnswer::Failed);
+    }
+    let held = rows_of(alloc, &output.stdout)?;
+    append_rows(alloc, &held, rows)
 }
 
 /// The host's tables, as a script lists and changes them. What they hold isn't told.
@@ -134,21 +190,24 @@ fn listed(rt: &(impl Processes + AllocGlobal), script: &str) -> io::Result<std::
 /// The script's first word says what it is to do: `host-list` prints all rows, a line for each; `host-add` and
 /// `host-del` are followed by the words of a row. Status 0 is success. A script that doesn't end is waited for.
 #[derive(Drop)]
-pub struct CommandHost<R: Processes + AllocGlobal + Drop> {
-    rt: R,
+pub struct CommandHost<C: Children + Drop> {
+    alloc: Global,
+    children: C,
     script: String,
     faults: Faults,
 }
 
-#[tactic(auto, using(crate::proofs::Causing::counted_cause, crate::proofs::HeldRows::lists_held))]
-impl<R: Processes + AllocGlobal + Drop> CommandHost<R> {
+#[tactic(auto, using(crate::proofs::Causing::counted_cause, crate::proofs::Doing::answered_so, crate::proofs::ScriptCalls::changed, crate::proofs::ScriptCalls::printed_so, crate::proofs::ScriptCalls::unprinted_so))]
+impl<C: Children + Drop> CommandHost<C> {
     /// The tables behind the script with this path. Nothing runs yet.
-    pub fn new(rt: R, script: &str) -> Result<CommandHost<R>, NoMemory>
-        ensures { IfOk result (λ host. string_bytes host.script ≡ script.now) }
+    pub fn new(alloc: Global, children: C, script: &str) -> Result<CommandHost<C>, NoMemory>
+        ensures script { IfOk result (λ host. string_bytes host.script ≡ script.now) }
+        ensures children { IfOk result (λ host. host.children ≡ children) }
     {
-        match String::from_str(rt.alloc(), script) {
+        match String::from_str(alloc, script) {
             Ok(script) => Ok(CommandHost {
-                rt,
+                alloc,
+                children,
                 script,
                 faults: Faults::none(),
             }),
@@ -157,29 +216,40 @@ impl<R: Processes + AllocGlobal + Drop> CommandHost<R> {
     }
 
     fn change(&mut self, change: Change, row: &HostRow) -> Result<(), DeviceAnswer>
-        ensures { HasDeviceCause self.old.faults.count self.new.faults.count result }
+        ensures cause { HasDeviceCause self.old.faults.count self.new.faults.count result }
+        ensures script { self.new.script ≡ self.old.script }
+        ensures asked { Answered
+            (ChangesRow (string_bytes self.old.script) (change_word change) row.now (C.calls self.old.children)
+            (C.calls self.new.children))
+            (C.calls self.new.children ≡ C.calls self.old.children) result }
     {
-        let Ok(mut call) = change_call(self.rt.alloc(), &self.script, change, row) else {
+        let Ok(mut call) = change_call(self.alloc, &self.script, change, row) else {
             return Err(DeviceAnswer::NoMemory);
         };
-        match call.status(&self.rt) {
-            Ok(status) if status.success() => Ok(()),
-            _ => Err(self.faults.counted(DeviceAnswer::Failed)),
-        }
+        self.faults.room()?;
+        let ran = run(&mut self.children, &mut call);
+        self.faults.answered(ran)
     }
 
     /// Appends the rows that the script lists.
-    fn append_listed(&self, rows: &mut Vec<HostRow>) -> Result<(), DeviceAnswer>
-        ensures { Lists None None rows.old.items rows.new.items result }
+    fn append_listed(&mut self, rows: &mut Vec<HostRow>) -> Result<(), DeviceAnswer>
+        ensures listed { Lists None None rows.old.items rows.new.items result }
+        ensures same { (self.new.script ≡ self.old.script) × (self.new.faults ≡ self.old.faults) }
+        ensures asked { ListsRowsOf (string_bytes self.old.script) (C.calls self.old.children)
+            (C.calls self.new.children) rows.old.items rows.new.items result }
     {
-        let text = listing(&self.rt, &self.script)?;
-        let held = rows_of(self.rt.alloc(), &text)?;
-        append_rows(self.rt.alloc(), &held, rows)
+        let Ok(mut call) = script_call(self.alloc, &self.script, "host-list", &[]) else {
+            return Err(DeviceAnswer::NoMemory);
+        };
+        match self.children.print(&mut call) {
+            Ok(output) => append_printed(self.alloc, &output, rows),
+            Err(kind) => Err(reason(kind)),
+        }
     }
 }
 
 #[tactic(auto, using(crate::proofs::Causing::counted_cause))]
-impl<R: Processes + AllocGlobal + Drop> Host for CommandHost<R> {
+impl<C: Children + Drop> Host for CommandHost<C> {
     ghost use Rattle.std.specs.Prelude.{None};
 
     ghost faults = { λ host. host.faults.count };
@@ -188,18 +258,39 @@ impl<R: Processes + AllocGlobal + Drop> Host for CommandHost<R> {
 
     ghost failing = { λ host. None };
 
-    fn list(&mut self, rows: &mut Vec<HostRow>) -> Result<(), DeviceAnswer> {
+    fn list(&mut self, rows: &mut Vec<HostRow>) -> Result<(), DeviceAnswer>
+        ensures cause { HasDeviceCause self.old.faults.count self.new.faults.count result }
+        ensures told { Lists None None rows.old.items rows.new.items result }
+        ensures script { self.new.script ≡ self.old.script }
+        ensures asked { ListsRowsOf (string_bytes self.old.script) (C.calls self.old.children)
+            (C.calls self.new.children) rows.old.items rows.new.items result }
+    {
+        self.faults.room()?;
         match self.append_listed(rows) {
             Ok(()) => Ok(()),
             Err(answer) => Err(self.faults.counted(answer)),
         }
     }
 
-    fn add(&mut self, row: &HostRow) -> Result<(), DeviceAnswer> {
+    fn add(&mut self, row: &HostRow) -> Result<(), DeviceAnswer>
+        ensures cause { HasDeviceCause self.old.faults.count self.new.faults.count result }
+        ensures script { self.new.script ≡ self.old.script }
+        ensures asked { Answered
+            (ChangesRow (string_bytes self.old.script) (codes "host-add") row.now (C.calls self.old.children)
+            (C.calls self.new.children))
+            (C.calls self.new.children ≡ C.calls self.old.children) result }
+    {
         self.change(Change::Add, row)
     }
 
-    fn remove(&mut self, row: &HostRow) -> Result<(), DeviceAnswer> {
+    fn remove(&mut self, row: &HostRow) -> Result<(), DeviceAnswer>
+        ensures cause { HasDeviceCause self.old.faults.count self.new.faults.count result }
+        ensures script { self.new.script ≡ self.old.script }
+        ensures asked { Answered
+            (ChangesRow (string_bytes self.old.script) (codes "host-del") row.now (C.calls self.old.children)
+            (C.calls self.new.children))
+            (C.calls self.new.children ≡ C.calls self.old.children) result }
+    {
         self.change(Change::Remove, row)
     }
 }

@@ -1,10 +1,9 @@
 //! The outside of the daemon on a real machine: the standard streams, files in a folder, scripts that keep the host's
 //! rows, children that run hooks, and datagrams on the loopback address in the place of interfaces.
 //!
-//! Files, children and datagrams stand over traits of this crate, each method of which is one call of the system:
-//! `Disk`, `Children` and `Loopback`. Where a machine tells its calls, each device says which it made, and that it
-//! answers by them. The runtime's own calls (`system`) tell nothing, and are trusted, as are the scripts that keep the
-//! host's rows.
+//! The devices stand over traits of this crate, each method of which is one call of the system: `Disk`, `Children` and
+//! `Loopback`. Where a machine tells its calls, each device says which it made, and that it answers by them. The
+//! runtime's own calls (`system`) tell nothing, and are trusted.
 #![tactic(auto)]
 
 mod children;
@@ -14,8 +13,10 @@ mod datagrams;
 mod disks;
 mod faults;
 mod folder;
+mod laws;
 mod links;
 mod loopback;
+mod machine;
 mod moments;
 mod processes;
 mod salts;
@@ -27,9 +28,10 @@ pub use commands::CommandHost;
 pub use constants::{datagrams_are_these, loopback_is_this, salts_are_these};
 pub use disks::Disk;
 pub use folder::FolderStore;
+pub use laws::savings_are_whole;
 pub use links::LoopLink;
-pub use loopback::{Arrival, Loopback, Sender};
-pub use processes::{Children, Seen, Watch};
+pub use loopback::Loopback;
+pub use machine::{ChildWatch, SystemChildren, SystemDisk, SystemLoopback};
+pub use processes::{Children, Watch};
 pub use salts::Salts;
 pub use streams::{StdSink, StdSource};
-pub use system::{ChildWatch, SystemChildren, SystemDisk, SystemLoopback};

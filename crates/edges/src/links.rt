@@ -2,21 +2,22 @@ ghost use Rattle.std.specs.Prelude.{◌≡◌, ◌<◌, ◌≤◌, ◌-◌, ◌^
 ghost use Rattle.edges.specs.Ports.{port_named};
 ghost use Rattle.edges.specs.Waiting.{wait_end, piece_of, glancing, is_over};
 ghost use Rattle.world.specs.Causes.{HasCause, HasDeviceCause};
-ghost use Rattle.edges.specs.WireCalls.{BeginsLife, Binds, Receives, Sends};
-ghost use Rattle.edges.specs.declared.loopback.TheConstants.{LOOPBACK};
+ghost use Rattle.edges.specs.WireCalls.{BeginsLife, Binds, IsLoopback, Receives, Sends};
+ghost use Rattle.std.specs.Net.Socket.{socket_port};
 ghost use Rattle.world.specs.LinkCalls.{frame_len};
 ghost use Rattle.world.specs.Streams.{count_after};
 
 use crate::datagrams::{FRAME_LIMIT, HEAD, frame_datagram, taken};
 use crate::faults::Faults;
-use crate::loopback::{Arrival, LOOPBACK, Loopback};
+use crate::loopback::{LOOPBACK, Loopback};
 use crate::moments::Moments;
-use crate::processes::{Seen, Watch};
+use crate::processes::{Seen, Watch, seen_by};
 use crate::salts::Salts;
 use net_types::{IfIndex, number_of};
 use rand_core::utils::NextWord;
 use std::alloc::Global;
 use std::io::ErrorKind;
+use std::net::SocketAddr;
 use world::{Begin, DeviceAnswer, Event, Failed, Link, Wake};
 
 /// How many milliseconds the link waits where no moment is asked for.
@@ -101,14 +102,15 @@ struct Wire<L: Loopback + Drop, W: Watch + Drop> {
 }
 
 /// How long the datagram is that came, where the peer sent it.
-fn from_peer(arrival: Arrival, peer: u16) -> Option<usize>
-    ensures { IfSome result
-        (λ len. (len ≡ arrival.len) × (arrival.sender.address ≡ LOOPBACK) × (arrival.sender.port ≡ peer)) }
+fn from_peer(len: usize, sender: SocketAddr, peer: u16) -> Option<usize>
+    ensures { IfSome result (λ n. (n ≡ len) × IsLoopback sender × (socket_port sender ≡ peer)) }
 {
-    if arrival.sender.address == LOOPBACK && arrival.sender.port == peer {
-        Some(arrival.len)
-    } else {
-        None
+    match sender {
+        SocketAddr::V4(address) => {
+            let is_here = u32::from(*address.ip()) == LOOPBACK;
+            (is_here && address.port() == peer).then_some(len)
+        }
+        SocketAddr::V6(_) => None,
     }
 }
 
@@ -177,7 +179,7 @@ impl<L: Loopback + Drop, W: Watch + Drop> Wire<L, W> {
             return Err(Failed);
         };
         match self.line.receive(datagram) {
-            Ok(arrival) => Ok(from_peer(arrival, self.peer)),
+            Ok((len, sender)) => Ok(from_peer(len, sender, self.peer)),
             Err(kind) => nothing_came(kind),
         }
     }
@@ -200,11 +202,11 @@ impl<L: Loopback + Drop, W: Watch + Drop> Wire<L, W> {
         ensures room { IfOk result (λ heard. IfSome heard (λ event. frame_len event ≤ length buf.new)) }
     {
         let left = end.saturating_sub(self.moment()?);
-        let piece = glancing(self.watch.look(), piece_of(left));
+        let piece = glancing(seen_by(self.watch.look()), piece_of(left));
         if let Some(event) = self.heard(piece, buf)? {
             return Ok(Some(event));
         }
-        if self.watch.look() == Seen::Ended || end <= self.moment()? {
+        if seen_by(self.watch.look()) == Seen::Ended || end <= self.moment()? {
             Ok(Some(Event::Quiet))
         } else {
             Ok(None)
@@ -247,7 +249,7 @@ impl<L: Loopback + Drop, W: Watch + Drop> Wire<L, W> {
             return Err(DeviceAnswer::NoMemory);
         };
         match self.line.send(&datagram, self.peer) {
-            Ok(()) => Ok(()),
+            Ok(_) => Ok(()),
             Err(_) => Err(DeviceAnswer::Failed),
         }
     }

@@ -3,26 +3,11 @@ ghost use Rattle.edges.specs.Asking.{Does, failure_of};
 ghost use Rattle.edges.specs.WireCalls.{WireCall, Bound, Limited, Received, Sent, WallRead, SteadyRead, arrived, wall_nanos, steady_nanos};
 
 use std::io::ErrorKind;
-use std::time::{Duration, Instant};
+use std::net::SocketAddr;
+use std::time::{Instant, SystemTime};
 
 /// The address 127.0.0.1 as a number.
 pub(crate) const LOOPBACK: u32 = 0x7f00_0001;
-
-/// Who sent a datagram.
-#[derive(Clone, Copy)]
-pub struct Sender {
-    /// The IPv4 address as a number; 0 for a sender that has none.
-    pub address: u32,
-    pub port: u16,
-}
-
-/// A datagram that came.
-#[derive(Clone, Copy)]
-pub struct Arrival {
-    /// How many bytes it has, cut to the buffer.
-    pub len: usize,
-    pub sender: Sender,
-}
 
 /// A socket of the loopback address, and the clocks of a machine. Each method is one call of the system. A call that
 /// gave nothing says why.
@@ -38,17 +23,17 @@ pub trait Loopback {
     fn limit(&mut self, millis: u64) -> Result<(), ErrorKind>
         ensures { Does (Limited millis (failure_of result) ∷ []) (calls self.old) (calls self.new) };
 
-    /// Receives a datagram at the front of `buf`, cut to its room.
-    fn receive(&mut self, buf: &mut [u8]) -> Result<Arrival, ErrorKind>
-        ensures room { IfOk result (λ arrival. arrival.len ≤ length buf.new) }
+    /// Receives a datagram at the front of `buf`, cut to its room, and says how long it is and who sent it.
+    fn receive(&mut self, buf: &mut [u8]) -> Result<(usize, SocketAddr), ErrorKind>
+        ensures room { IfOk result (λ got. got.0 ≤ length buf.new) }
         ensures told { Does (Received (arrived buf.new result) ∷ []) (calls self.old) (calls self.new) };
 
-    /// Sends a datagram to a port of 127.0.0.1.
-    fn send(&mut self, datagram: &[u8], port: u16) -> Result<(), ErrorKind>
+    /// Sends a datagram to a port of 127.0.0.1, and says how many bytes it has.
+    fn send(&mut self, datagram: &[u8], port: u16) -> Result<usize, ErrorKind>
         ensures { Does (Sent datagram.now port (failure_of result) ∷ []) (calls self.old) (calls self.new) };
 
-    /// What has passed since 1970 by the wall clock.
-    fn wall(&mut self) -> Result<Duration, ErrorKind>
+    /// What the wall clock reads.
+    fn wall(&mut self) -> Result<SystemTime, ErrorKind>
         ensures { Does (WallRead (wall_nanos result) ∷ []) (calls self.old) (calls self.new) };
 
     /// What the clock reads that nobody sets.

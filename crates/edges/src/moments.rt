@@ -1,14 +1,14 @@
 //! The moments that a link tells.
 
 ghost use Rattle.std.specs.Prelude.{◌≡◌, ◌≤◌, ◌/◌, [], ◌∷◌, IfOk, Ok};
-ghost use Rattle.std.specs.Time.{instant_nanos};
+ghost use Rattle.std.specs.Time.{instant_nanos, system_time_nanos};
 ghost use Rattle.std.specs.Duration.{as_nanos};
 ghost use Rattle.edges.specs.Asking.{Does};
 ghost use Rattle.edges.specs.Moments.{moment_at, next_moment};
 ghost use Rattle.edges.specs.WireCalls.{SteadyRead, ReadsWall, BeginsWith, TellsMoment};
 
 use crate::loopback::Loopback;
-use std::time::{Duration, Instant};
+use std::time::{Duration, Instant, SystemTime, UNIX_EPOCH};
 use world::Failed;
 
 /// A time in whole milliseconds.
@@ -21,12 +21,22 @@ fn millis(time: Duration) -> Result<u64, Failed>
     }
 }
 
+/// What has passed since 1970 at a time. None before that can be told.
+fn since_1970(time: SystemTime) -> Result<Duration, Failed>
+    ensures { IfOk result (λ passed. as_nanos passed ≡ system_time_nanos time) }
+{
+    match time.duration_since(UNIX_EPOCH) {
+        Ok(passed) => Ok(passed),
+        Err(_) => Err(Failed),
+    }
+}
+
 /// The moment of the wall clock, in milliseconds since 1970.
 fn wall_moment<L: Loopback>(line: &mut L) -> Result<u64, Failed>
     ensures { IfOk result (λ moment. ReadsWall moment (L.calls line.old) (L.calls line.new)) }
 {
     match line.wall() {
-        Ok(passed) => millis(passed),
+        Ok(now) => millis(since_1970(now)?),
         Err(_) => Err(Failed),
     }
 }

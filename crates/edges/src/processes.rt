@@ -1,33 +1,35 @@
-ghost use Rattle.std.specs.Prelude.{[], ◌∷◌, List, Option, map};
-ghost use Rattle.world.specs.HookCalls.{variable_of};
+ghost use Rattle.std.specs.Prelude.{◌≡◌, [], ◌∷◌, List, Option};
 ghost use Rattle.edges.specs.Asking.{Does, failure_of};
-ghost use Rattle.edges.specs.ChildCalls.{ChildCall, Started, Asked, Killed, Waited};
+ghost use Rattle.edges.specs.ChildCalls.{ChildCall, Started, Asked, Killed, Waited, Printed, start_of, printed};
+ghost use Rattle.edges.specs.Waiting.{seen_by};
 
 use std::io::ErrorKind;
-use world::HookVar;
+use std::process::{Command, ExitStatus, Output};
 
 /// A child of this process, one at a time. Each method is one call of the system. A call that gave nothing says why.
 pub trait Children {
     /// The calls so far with their answers, the last one first, where these are told.
     ghost calls: { Self → Option (List ChildCall) };
 
-    /// Starts a child with these variables, and with those of this process too where it inherits. It reads nothing, and
-    /// what it prints is dropped.
-    fn start(&mut self, program: &str, inherits: bool, vars: &[HookVar]) -> Result<(), ErrorKind>
-        ensures { Does (Started program.now inherits (map variable_of vars.now) (failure_of result) ∷ [])
-            (calls self.old) (calls self.new) };
+    /// Starts a child. It reads nothing, and what it prints is dropped.
+    fn start(&mut self, call: &mut Command) -> Result<(), ErrorKind>
+        ensures { Does (Started (start_of call.old) (failure_of result) ∷ []) (calls self.old) (calls self.new) };
 
-    /// The status that the child ended with, as a shell tells it; `None` while it runs.
-    fn ask(&mut self) -> Result<Option<u32>, ErrorKind>
+    /// How the child ended; `None` while it runs. One that has ended is forgotten.
+    fn ask(&mut self) -> Result<Option<ExitStatus>, ErrorKind>
         ensures { Does (Asked result ∷ []) (calls self.old) (calls self.new) };
 
     /// Ends the child, whatever it does.
     fn kill(&mut self) -> Result<(), ErrorKind>
         ensures { Does (Killed (failure_of result) ∷ []) (calls self.old) (calls self.new) };
 
-    /// Waits until the child has ended.
-    fn wait(&mut self) -> Result<(), ErrorKind>
-        ensures { Does (Waited (failure_of result) ∷ []) (calls self.old) (calls self.new) };
+    /// Waits until the child has ended, and forgets it.
+    fn wait(&mut self) -> Result<ExitStatus, ErrorKind>
+        ensures { Does (Waited result ∷ []) (calls self.old) (calls self.new) };
+
+    /// Starts a child that reads nothing, and waits for its end and for all that it prints.
+    fn print(&mut self, call: &mut Command) -> Result<Output, ErrorKind>
+        ensures { Does (Printed (start_of call.old) (printed result) ∷ []) (calls self.old) (calls self.new) };
 }
 
 /// What is seen of the child that hooks run.
@@ -40,5 +42,17 @@ pub enum Seen {
 
 /// What sees whether a child of this process has ended.
 pub trait Watch {
-    fn look(&self) -> Seen;
+    /// How the child ended: nothing while it runs. `None` where there is no child.
+    fn look(&self) -> Option<Result<Option<ExitStatus>, ErrorKind>>;
+}
+
+/// A child that can't be asked runs on.
+pub(crate) fn seen_by(asked: Option<Result<Option<ExitStatus>, ErrorKind>>) -> Seen
+    ensures { result ≡ seen_by asked }
+{
+    match asked {
+        None => Seen::NoChild,
+        Some(Ok(Some(_))) => Seen::Ended,
+        Some(_) => Seen::Runs,
+    }
 }

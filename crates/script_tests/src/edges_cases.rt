@@ -105,12 +105,14 @@ fn rows_of_a_script(rt: HostRuntime) {
         }),
     };
     let script = new_script(&rt, HOST).expect(&rt, "a script");
-    let mut host = CommandHost::new(&rt, &script).expect(&rt, "memory");
+    let children = SystemChildren::new(&rt).expect(&rt, "memory");
+    let mut host = CommandHost::new(rt.alloc(), children, &script).expect(&rt, "memory");
     let mut rows = Vec::new(rt.alloc());
     host.list(&mut rows).expect(&rt, "rows");
     assert_eq!(rt; rows.as_slice(), [row].as_slice());
     assert_eq!(rt; [host.add(&row), host.remove(&row)], [DONE, FAILED]);
-    let mut echo = CommandHost::new(&rt, "echo").expect(&rt, "memory");
+    let children = SystemChildren::new(&rt).expect(&rt, "memory");
+    let mut echo = CommandHost::new(rt.alloc(), children, "echo").expect(&rt, "memory");
     assert_eq!(rt; echo.list(&mut rows), FAILED);
     assert_eq!(rt; rows.len(), 1);
 }
