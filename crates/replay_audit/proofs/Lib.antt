@@ -1,0 +1,6 @@
+pub mod ToldLines
+pub mod JustLives
+mod PlainLives
+mod CountedLines
+mod FittingLives
+pub mod YesLives

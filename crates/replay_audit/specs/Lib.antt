@@ -1,0 +1,2 @@
+pub mod ScriptsTold
+pub mod Laws

@@ -1,0 +1,4 @@
+mod NoticeTexts
+mod PlainLines
+mod SpelledLines
+pub mod WholeTexts
