@@ -1,11 +1,13 @@
 -- In the life of interfaces that a configuration manages each variable of a job is printable.
-use Rattle.std.proofs.Common.{ℕ, List, ◌++◌, flat_map, refl, sym, subst}
+use Rattle.std.proofs.Common.{◌≡◌, ℕ, ◌≤◌, true, List, ◌++◌, flat_map, length, refl, sym, subst, arith, leb}
 use Rattle.std.specs.List.{AllByRecursion, Contains}
+use Rattle.std.proofs.lemmas.Bool.{leb-true}
+use Rattle.std.proofs.lemmas.List.{length-append}
 use Rattle.std.proofs.lemmas.List.Elements.{All-contains, All-from_recursion}
 use Rattle.net_types.proofs.AllLaws.{all_join, all_map}
-use Rattle.net_types.proofs.MarkLaws.{only-append}
+use Rattle.net_types.proofs.MarkLaws.{lacks-append, only-append}
 use Rattle.net_types.specs.declared.interface.IfSpec.{IfSpec}
-use Rattle.net_types.specs.Marks.{IsPrintable, is_printable}
+use Rattle.net_types.specs.Marks.{IsPrintable, Lacks, is_printable}
 use Rattle.world.specs.HookCalls.{Job, Variable}
 use Rattle.settings.specs.Fitting.{AreManaged}
 use Rattle.settings.specs.declared.interfaces.Managed.{Managed}
@@ -28,32 +30,58 @@ among_all P xs x all among = All-contains P xs x (All-from_recursion P xs all) a
 
 -- ---- names
 
+-- printable bytes, of which none is an equals sign, and one at least
+record IsPlainName (name : List ℕ) : Type 0 where
+  printable : IsPrintable name
+  parted : Lacks 61 name
+  some : 1 ≤ length name
+
 abbrev PlainRow : List ℕ × Form → Type 0
-PlainRow row = IsPrintable row.0
+PlainRow row = (IsPrintable row.0 × Lacks 61 row.0) × (leb 1 (length row.0) ≡ true)
+
+row_plain : (row : List ℕ × Form) → PlainRow row → IsPlainName row.0
+row_plain row plain = record { printable = plain.0.0; parted = plain.0.1; some = leb-true 1 (length row.0) plain.1 }
+
+shown : ((true ≡ true) × (true ≡ true)) × (true ≡ true)
+shown = ((refl, refl), refl)
 
 job_rows : AllByRecursion PlainRow JOB_FORMS
-job_rows = (refl, (refl, (refl, (refl, tt))))
+job_rows = (shown, (shown, (shown, (shown, tt))))
 
 held_rows : AllByRecursion PlainRow HELD_FORMS
-held_rows =
-    (refl, (refl, (refl, (refl, (refl, (refl, (refl, (refl, (refl, (refl, (refl, (refl, (refl, (refl, (refl, (refl, (refl, (refl, (refl, tt)))))))))))))))))))
+held_rows = (
+  shown,
+  (
+    shown,
+    (shown, (shown, (shown, (shown, (shown, (shown, (shown, (shown, (shown, (shown, (shown, (shown, (shown, (shown, (shown, (shown, (shown, tt))))))))))))))))),
+  ),
+)
 
-prefix_plain : (stage : Stage) → IsPrintable (prefix stage)
-prefix_plain Before = refl
-prefix_plain Now = refl
+prefix_plain : (stage : Stage) → IsPrintable (prefix stage) × Lacks 61 (prefix stage)
+prefix_plain Before = (refl, refl)
+prefix_plain Now = (refl, refl)
 
-name_plain : {name : List ℕ} {form : Form} → IsNamed name form → IsPrintable name
-name_plain (OfJob word form among) = among_all PlainRow JOB_FORMS (word, form) job_rows among
+name_plain : {name : List ℕ} {form : Form} → IsNamed name form → IsPlainName name
+name_plain (OfJob word form among) = row_plain (word, form) (among_all PlainRow JOB_FORMS (word, form) job_rows among)
 name_plain (OfHeld stage word form among) =
-    only-append is_printable (prefix stage) word (prefix_plain stage) (among_all PlainRow HELD_FORMS (word, form) held_rows among)
+    let plain : IsPlainName word = row_plain (word, form) (among_all PlainRow HELD_FORMS (word, form) held_rows among) in
+    let whole = length-append (prefix stage) word in
+    let least = plain.some in
+    record {
+      printable = only-append is_printable (prefix stage) word (prefix_plain stage).0 plain.printable;
+      parted = lacks-append 61 (prefix stage) word (prefix_plain stage).1 plain.parted;
+      some = omega (arith, whole, least);
+    }
 
 -- ---- variables
 
 variable_plain : (variable : Variable) → IsSafe variable → IsPlainVariable variable
-variable_plain variable safe = record { name = name_plain safe.named; value = safe.printable }
+variable_plain variable safe =
+    let name : IsPlainName variable.name = name_plain safe.named in
+    record { name = name.printable; some = name.some; parted = name.parted; value = safe.printable }
 
 module _ (managed : List Managed) (plain : AllByRecursion IsPlainlyConfigured managed) where
-  job_plain : (job : Job) → IsSafeJob managed job → HasPlainVariables job
+  pub job_plain : (job : Job) → IsSafeJob managed job → HasPlainVariables job
   job_plain job safe =
       subst (AllByRecursion IsPlainVariable) (sym safe.vars)
       (all_join IsPlainVariable safe.made safe.holder.conf.hooks.env (all_map IsSafe IsPlainVariable variable_plain safe.made safe.safe)

@@ -92,6 +92,7 @@ module _ (managed : List Managed) where
     holder = safe.holder;
     among = safe.among;
     iface = safe.iface;
+    named = safe.named;
     script = safe.script;
     made = safe.made;
     vars = safe.vars;

@@ -121,7 +121,7 @@ place_plain place front all =
 
 variables_plain : (env : List EnvContent) → AllByRecursion IsPlainEnv env → AllByRecursion IsPlainVariable (map variable_said env)
 variables_plain [] all = tt
-variables_plain (one ∷ env) all = (record { name = all.0.name; value = all.0.value }, variables_plain env all.1)
+variables_plain (one ∷ env) all = (record { name = all.0.name; some = all.0.some; parted = all.0.parted; value = all.0.value }, variables_plain env all.1)
 
 path_plain : (path : List ℕ) → IsPrintable path → HasPlainPath (script_of path)
 path_plain path plain = by (bytes_eq path no_hooks) (length path == 0)

@@ -1,5 +1,5 @@
 -- What a line of a configuration says for hooks and for the resolver.
-use Rattle.std.proofs.Common.{◌≡◌, inl, inr, ℕ, ◌^◌, Bool, true, false, cond, List, [], ◌∷◌, ◌++◌, length, flat_map, Option, Some, None, option_map, refl, sym, subst}
+use Rattle.std.proofs.Common.{◌≡◌, inl, inr, ℕ, ◌≤◌, ◌^◌, Bool, true, false, cond, List, [], ◌∷◌, ◌++◌, length, flat_map, Option, Some, None, option_map, refl, sym, subst, arith}
 use Rattle.std.proofs.lemmas.Bool.{and_parts}
 use Rattle.std.proofs.lemmas.List.Folds.{list_all-append}
 use Rattle.std.specs.Prelude.{IfSome, ◌==◌, bytes_eq, option_and_then}
@@ -10,7 +10,7 @@ use Rattle.net_types.specs.AddressText.{FitsIp4, ip4_at}
 use Rattle.net_types.specs.Cutting.{◌>>=◌, read_all, split_at_byte}
 use Rattle.net_types.specs.declared.address.Ip4.{Ip4}
 use Rattle.net_types.specs.Ip6Text.{net6_at}
-use Rattle.net_types.specs.Marks.{IsPrintable, is_printable}
+use Rattle.net_types.specs.Marks.{IsPrintable, Lacks, is_printable}
 use Rattle.net_types.specs.Numbers.{number_at}
 use Rattle.v6_options.specs.declared.ia.IaKind.{IaKind}
 use Rattle.v6_options.specs.declared.ia.IaKind.TheVariants.{Na, Pd}
@@ -61,6 +61,8 @@ some_guard false o P so = tt
 
 pub record IsPlainEnv (env : EnvContent) : Type 0 where
   pub name : IsPrintable env.name
+  pub some : 1 ≤ length env.name
+  pub parted : Lacks 61 env.name
   pub value : IsPrintable env.value
 
 abbrev pub Are4 : List Ip4 → Type 0
@@ -92,19 +94,32 @@ parts_plain front byte rest plain =
     (subst (λ (b : Bool). b ≡ true) (list_all-append is_printable front (byte ∷ rest)) plain) in
     (both.0, (and_parts (is_printable byte) (list_all is_printable rest) both.1).1)
 
-split_plain : (text : List ℕ) → IsPrintable text → IfSome (split_at_byte equals_sign text) (λ (p : List ℕ × List ℕ). IsPrintable p.0 × IsPrintable p.1)
-split_plain text plain =
-    some_by (split_at_byte equals_sign text) (λ (p : List ℕ × List ℕ). IsPrintable p.0 × IsPrintable p.1)
-    (λ p e. parts_plain p.0 equals_sign p.1 (subst IsPrintable (split_sound equals_sign text p.0 p.1 e).0 plain))
+-- of printable texts, of which the first one has no equals sign
+record ArePlain (p : List ℕ × List ℕ) : Type 0 where
+  first : IsPrintable p.0
+  second : IsPrintable p.1
+  parted : Lacks equals_sign p.0
 
-env_plain : (p : List ℕ × List ℕ) → IsPrintable p.0 × IsPrintable p.1 → IfSome (variable_by p) IsPlainEnv
-env_plain p plain = some_if (is_some_text p.0) (variable_of p) IsPlainEnv (λ e. record { name = plain.0; value = plain.1 })
+split_plain : (text : List ℕ) → IsPrintable text → IfSome (split_at_byte equals_sign text) ArePlain
+split_plain text plain =
+    some_by (split_at_byte equals_sign text) ArePlain
+    (λ p e. let sound = split_sound equals_sign text p.0 p.1 e in
+    let both = parts_plain p.0 equals_sign p.1 (subst IsPrintable sound.0 plain) in
+    record { first = both.0; second = both.1; parted = sound.1 })
+
+some_bytes : (text : List ℕ) → is_some_text text ≡ true → 1 ≤ length text
+some_bytes [] e = absurd cc
+some_bytes (b ∷ text) e = omega arith
+
+env_plain : (p : List ℕ × List ℕ) → ArePlain p → IfSome (variable_by p) IsPlainEnv
+env_plain p plain =
+    some_if (is_some_text p.0) (variable_of p) IsPlainEnv
+    (λ e. record { name = plain.first; some = some_bytes p.0 e; parted = plain.parted; value = plain.second })
 
 variable_plain : (text : List ℕ) → IfSome (variable text) IsPlainEnv
 variable_plain text =
     then_so (printed TEXT_LIMIT text) (λ whole. split_at_byte equals_sign whole >>= variable_by) IsPrintable IsPlainEnv (printed_plain TEXT_LIMIT text)
-    (λ whole plain. then_so (split_at_byte equals_sign whole) variable_by (λ (p : List ℕ × List ℕ). IsPrintable p.0 × IsPrintable p.1) IsPlainEnv
-    (split_plain whole plain) env_plain)
+    (λ whole plain. then_so (split_at_byte equals_sign whole) variable_by ArePlain IsPlainEnv (split_plain whole plain) env_plain)
 
 -- ---- addresses
 

@@ -100,6 +100,7 @@ module _ (managed : List Managed) where
           holder = m;
           among = holder.among;
           iface = refl;
+          named = refl;
           script = is;
           made = made_variables (situation_of why m up held_before held_now script);
           vars = refl;

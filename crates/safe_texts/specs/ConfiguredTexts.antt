@@ -1,8 +1,8 @@
 -- That what a configuration says for hooks and for the resolver is safe to read too.
-use Rattle.std.specs.Prelude.{◌≡◌, ℕ, List, ◌++◌, flat_map, Ok}
+use Rattle.std.specs.Prelude.{◌≡◌, ℕ, ◌≤◌, List, ◌++◌, flat_map, length, Ok}
 use Rattle.std.specs.List.{AllByRecursion}
 use Rattle.net_types.specs.declared.interface.IfSpec.{IfSpec}
-use Rattle.net_types.specs.Marks.{IsPrintable}
+use Rattle.net_types.specs.Marks.{IsPrintable, Lacks}
 use Rattle.world.specs.HookCalls.{Job, Variable}
 use Rattle.settings.specs.HookSettings.{ScriptContent, Nothing, Default, At}
 use Rattle.settings.specs.declared.interfaces.Managed.{Managed}
@@ -13,8 +13,11 @@ use Rattle.turn_model.specs.Lives.{AreTurns, IsOpening, Met, OpeningMet, turns_c
 use Rattle.safe_texts.specs.ResolverLines.{AreOctets, HasServers, IsLife}
 use Rattle.safe_texts.specs.SafeJobs.{job_in}
 
+-- its name has a byte or more, and no `=`, after which a value begins
 pub record IsPlainVariable (variable : Variable) : Type 0 where
   pub name : IsPrintable variable.name
+  pub some : 1 ≤ length variable.name
+  pub parted : Lacks 61 variable.name
   pub value : IsPrintable variable.value
 
 abbrev pub HasPlainPath : ScriptContent → Type 0

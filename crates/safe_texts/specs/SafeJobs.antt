@@ -1,6 +1,7 @@
 -- That what hooks are given is safe to read: in each step of the client, and each life.
 use Rattle.std.specs.Prelude.{◌≡◌, List, [], ◌∷◌, ◌++◌, flat_map, map, Some}
 use Rattle.std.specs.List.{AllByRecursion, Contains}
+use Rattle.net_types.specs.NameText.{name_text}
 use Rattle.net_types.specs.declared.interface.IfSpec.{IfSpec}
 use Rattle.world.specs.HookCalls.{HookCall, Job, Variable, Started, Polled, Abandoned}
 use Rattle.world.specs.declared.wakes.Begin.{Begin}
@@ -10,18 +11,20 @@ use Rattle.client_model.specs.Clients.{Client, client_turned, opening}
 use Rattle.client_model.specs.IfaceTurns.{Turn}
 use Rattle.client_model.specs.Jobs.{script_path}
 use Rattle.client_model.specs.KeptLeases.{Beginning}
+use Rattle.device_calls.specs.CallLines.{interface_of}
 use Rattle.device_calls.specs.Calls.{Call, Link, Host, Store, Hook, Dropped}
 use Rattle.turn_model.specs.Lives.{OpeningMet, Met, IsOpening, AreTurns, turns_calls}
 use Rattle.safe_texts.specs.SafeVariables.{AreSafe}
 
 -- ---- a job
 
--- It is of a managed interface, and runs the script that is configured there. What is made of its event is safe, and
--- behind that stands what is configured for its hooks, as it was configured.
+-- It is of a managed interface, which it names, and runs the script that is configured there. What is made of its event
+-- is safe, and behind that stands what is configured for its hooks, as it was configured.
 pub record IsSafeJob (managed : List Managed) (job : Job) : Type 0 where
   pub holder : Managed
   pub among : Contains managed holder
   pub iface : job.iface ≡ holder.spec.index.number
+  pub named : interface_of job ≡ name_text holder.spec.name
   pub script : script_path holder.conf.hooks.script ≡ Some job.script
   pub made : List Variable
   pub vars : job.vars ≡ made ++ holder.conf.hooks.env

@@ -1,0 +1,2 @@
+pub mod FittingWorlds
+pub mod Laws
