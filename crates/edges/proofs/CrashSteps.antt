@@ -1,5 +1,5 @@
 -- A saving, call by call.
-use Rattle.std.proofs.Common.{◌≡◌, ◌≢◌, ℕ, Bool, true, false, ◌&&◌, ◌||◌, inl, inr, cond, List, [], ◌∷◌, ◌++◌, take, bytes_eq, option_map, Option, None, Some, Result, Ok, Err, refl, sym, ap, subst, ◌∙◌}
+use Rattle.std.proofs.Common.{◌≡◌, ◌≢◌, ℕ, Bool, true, false, ◌||◌, inl, inr, cond, List, [], ◌∷◌, ◌++◌, take, bytes_eq, option_map, Option, None, Some, Ok, Err, refl, sym, ap, subst, ◌∙◌}
 use Rattle.std.proofs.lemmas.Slice.Eq.{bytes_eq-Decides}
 use Rattle.std.specs.Prelude.{IsTrue, ◌⊎◌}
 use Rattle.std.specs.List.{list_all}
@@ -7,8 +7,8 @@ use Rattle.std.specs.declared.io.ErrorKind.{ErrorKind}
 use Rattle.net_types.proofs.ReadsLaws.{some_same}
 use Rattle.edges.specs.Asking.{Does}
 use Rattle.edges.specs.DiskCalls.{DiskCall, Opened, Made, Read, Wrote, Synced, Closed, Renamed, Removed, Listed, Named, written_by, is_write}
-use Rattle.edges.specs.FolderCalls.{Writes, WritesOn, WritesTo, WritesAll, WritesSome, Syncs, Renames}
-use Rattle.edges.specs.Crashes.{open_after, is_this, is_open, touches, held_by, held_after, syncs_it, is_safe, LeavesHeld, TouchLeaves, MayLeave, IsSaving, SavesWhole}
+use Rattle.edges.specs.FolderCalls.{Writes, Syncs}
+use Rattle.edges.specs.Crashes.{open_after, is_this, is_open, touches, held_after, is_safe, LeavesHeld, MayLeave, IsSaving, SavesWhole}
 
 differ : (a b : List ℕ) → a ≢ b → bytes_eq a b ≡ false
 differ a b apart = elim (bytes_eq a b) as (λ r. bytes_eq a b ≡ r → r ≡ false) [

@@ -1,5 +1,5 @@
 -- The calls of scripts, word by word and variable by variable.
-use Rattle.std.proofs.Common.{◌≡◌, ◌≢◌, ◌↔◌, ℕ, Bool, true, false, not, pos, inl, inr, fold, bytes_eq, codes, List, [], ◌∷◌, ◌++◌, Option, None, Some, Result, Ok, Err, option_map, cond, map, take, length, get_or, add-one, ◌+◌, ◌<◌, refl, sym, ap, ◌∙◌}
+use Rattle.std.proofs.Common.{◌≡◌, ◌≢◌, ℕ, Bool, true, false, not, pos, inl, inr, bytes_eq, codes, List, [], ◌∷◌, ◌++◌, Option, None, Some, Result, Ok, Err, option_map, cond, map, take, length, get_or, add-one, ◌+◌, ◌<◌, refl, sym, ap, ◌∙◌}
 use Rattle.std.proofs.Math.Seq.{take-suc}
 use Rattle.std.proofs.lemmas.List.{map-append}
 use Rattle.std.proofs.lemmas.List.Sums.{fold-append}
@@ -16,7 +16,7 @@ use Rattle.world.specs.declared.rows.HostRow.{HostRow}
 use Rattle.world.specs.declared.hooking.HookVar.{HookVar}
 use Rattle.world.specs.HookCalls.{Variable, variable_of}
 use Rattle.world.specs.RowText.{row_text}
-use Rattle.edges.specs.Asking.{Does, failure_of, reason_of}
+use Rattle.edges.specs.Asking.{Does, reason_of}
 use Rattle.edges.specs.ChildCalls.{ChildCall, Started, Waited, Printed, Start, RunsJob, SaysAlso, Starts, start_of, printed, value_in}
 use Rattle.edges.specs.HostScripts.{RunsScript, EndsAs, Runs, ChangesRow, ListsRowsOf, words_of}
 use Rattle.edges.specs.Listings.{IsListing}
