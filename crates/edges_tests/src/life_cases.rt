@@ -65,22 +65,22 @@ const FAILING: [(u64, ErrorKind); 2] = [(9, ErrorKind::StorageFull), (51, ErrorK
 
 /// What a life with a lease, hooks and a stop says, with these failures.
 const SAID: [&str; 16] = [
-    "\nstore read eth0.lease4 none\n",
-    "\nhost list ok 0\n",
-    "\nhook start 1 PREINIT eth0 ok\n",
-    "\nhook poll 1 run\n",
-    "\nhook poll 1 ended 0\n",
-    "\nhost add addr 1 10.0.0.50/24 ok\n",
-    "\nhost add route 1 10.0.0.0/24 metric 1001 ok\n",
+    "\nstore read eth0.lease4 none",
+    "\nhost list ok 0",
+    "\nhook start 1 PREINIT eth0 ok",
+    "\nhook poll 1 run",
+    "\nhook poll 1 ended 0",
+    "\nhost add addr 1 10.0.0.50/24 ok",
+    "\nhost add route 1 10.0.0.0/24 metric 1001 ok",
     "\nstore write eth0.lease4 ",
-    " failed\n",
-    "\nstore sync eth0.lease4 failed\n",
-    "\nstore sync eth0.lease4 ok\n",
-    "\nstore rename eth0.lease4 ok\n",
-    "\nstore settle ok\n",
-    " stop\n",
-    "\nhost del addr 1 10.0.0.50/24 ok\n",
-    "\nend\n",
+    " failed",
+    "\nstore sync eth0.lease4 failed",
+    "\nstore sync eth0.lease4 ok",
+    "\nstore rename eth0.lease4 ok",
+    "\nstore settle ok",
+    " stop",
+    "\nhost del addr 1 10.0.0.50/24 ok",
+    "\nend",
 ];
 
 #[test]
