@@ -20,4 +20,3 @@ mod lease_file_cases;
 #[cfg(test)]
 mod resolver_text_cases;
 #[cfg(test)]
-mod transcript_audit_cases;
