@@ -60,7 +60,8 @@ module _ (Rests : BasisWord) (rest : LinesRestOnEvidence Rests meets_told) where
         let world : World = world_in failing between life in
         let coming : List Given = (ran_opening managed script.ifaces world).world.link.told.coming in
         let octets : AllByRecursion BringsBytes coming =
-        subst (AllByRecursion BringsBytes) (sym (run_coming (opening_asks managed script.ifaces life.begin) world)) (life_octets (length script.ifaces) life fits) in
+        subst (AllByRecursion BringsBytes) (sym (run_coming (opening_asks managed script.ifaces life.begin) world))
+        (life_octets (length script.ifaces) life fits) in
         rest managed script.ifaces world coming fit led others numbered named octets sorted fits.at
 
     -- in all, whatever those before left

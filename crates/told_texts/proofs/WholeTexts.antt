@@ -55,8 +55,11 @@ first_line = refl
 
 head_are : (conf : List (List ℕ)) (configuration : Configuration) → AreLines conf → IsConfOf (texts.lines_text conf) (Ok configuration)
     → AreLines (map line_words (head_lines conf configuration))
-head_are conf configuration are is =
-    (first_line, conf_are conf (map notice_line configuration.notices) are (noticed configuration.notices (notices_stand (texts.lines_text conf) configuration is)))
+head_are conf configuration are is = (
+  first_line,
+  conf_are conf (map notice_line configuration.notices) are
+      (noticed configuration.notices (notices_stand (texts.lines_text conf) configuration is)),
+)
 
 -- ---- all lines
 
