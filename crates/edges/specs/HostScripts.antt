@@ -53,7 +53,8 @@ pub record ChangesRow (script word : List ℕ) (row : HostRow) (old new : Option
   pub runs : Runs start old new failure
 
 -- the rows of a listing that a script printed were appended
-pub record AppendsListing (start : Start) (old new : Option (List ChildCall)) (before after : List HostRow) : Type 0 where
+pub record AppendsListing (start : Start) (old new : Option (List ChildCall)) (before after : List HostRow)
+    : Type 0 where
   pub printing : Printing
   pub done : exit_code printing.status ≡ Some (pos 0)
   pub asked : Does (Printed start (Ok printing) ∷ []) old new

@@ -1,5 +1,5 @@
-//! The devices of `live` over a machine in memory: calls of which some fail, reads and writes that come short, datagrams
-//! of strangers, a clock that goes on with each wait.
+//! The devices of `live` over a machine in memory: calls of which some fail, reads and writes that come short,
+//! datagrams of strangers, a clock that goes on with each wait.
 #![tactic(auto)]
 
 #[cfg(test)]
