@@ -1,6 +1,6 @@
 -- What a crash may leave of a file after calls of the system, the last one first, as POSIX has it: what was written to
--- a file is safe once it was synced, and a rename puts all of a file in the place of another at once. A name is safe once
--- its folder was synced; nothing here rests on that, since before that both may be left.
+-- a file is safe once it was synced, and a rename puts all of a file in the place of another at once. A name is safe
+-- once its folder was synced; nothing here rests on that, since before that both may be left.
 use Rattle.std.specs.Prelude.{ℕ, ◌≡◌, ◌≢◌, ◌⊎◌, ◌++◌, ◌||◌, Bool, true, false, List, [], ◌∷◌, take, bytes_eq, option_map, Option, None, Some, Ok, if◌then◌else◌}
 use Rattle.std.specs.declared.io.ErrorKind.{ErrorKind}
 use Rattle.edges.specs.DiskCalls.{DiskCall, Opened, Made, Wrote, Synced, Closed, Renamed, Removed}
