@@ -27,7 +27,8 @@ answered_so asked unasked None (Err answer) did answers = absurd answers
 answered_so asked unasked (Some kind) (Ok x) did answers = absurd answers
 answered_so asked unasked (Some kind) (Err answer) did answers = rw answers (kind, did)
 
-pub ended_so : (answer : Result ExitStatus ErrorKind) (old mid new : Option (List ChildCall)) → Does (Killed None ∷ []) old mid → Does (Waited answer ∷ []) mid new
+pub ended_so : (answer : Result ExitStatus ErrorKind) (old mid new : Option (List ChildCall)) → Does (Killed None ∷ []) old mid
+    → Does (Waited answer ∷ []) mid new
     → Leaves true old new
 ended_so answer old mid new killed waited = inl (answer, then (Waited answer) (Killed None ∷ []) old mid new killed waited)
 
