@@ -19,4 +19,3 @@ mod interfaces;
 mod lease_file_cases;
 #[cfg(test)]
 mod resolver_text_cases;
-#[cfg(test)]
