@@ -24,13 +24,13 @@ go-requires c =
     let same : c.c.inside.state ≡ c.bring.new.self.state = ap (λ (v : ClientContent). v.state) c.c.view_is ∙ brought in
     let sound : IsSound c.args.c.now = subst IsSound c.c.view_is c.c.invariant in
     let clamped : IsMoment c.clamp_moment.result = let told = c.clamp_moment.ensures in omega arith in
-    let good : FitsAnswer c.in_ok-answer.answer =
-    rw c.in_ok-answer.ensures.answer
+    let good : FitsAnswer c.answer_to-answer.result =
+    rw c.answer_to-answer.ensures
     (answer_fits c.args.c.now.settings (arrival_from c.args.from c.clamp_moment.result c.args.msg.now) c.args.c.now.state clamped sound.state) in
     let at : IsMoment c.turn.result.at =
     early c.turn.result c.args.at c.clamp_moment.result c.args.salt c.args.c.now c.clamp_moment.ensures c.turn.ensures in
     subst (λ (s : State4). IsSoundStep (kept_terms c.bring.new.self) s c.heard_row-step.result) same
-    (rw c.heard_row-step.ensures (heard_sound (kept_terms c.bring.new.self) c.turn.result c.in_ok-answer.answer c.c.inside.state at c.c.invariant.state good))
+    (rw c.heard_row-step.ensures (heard_sound (kept_terms c.bring.new.self) c.turn.result c.answer_to-answer.result c.c.inside.state at c.c.invariant.state good))
 
 -- the step takes no room
 gone : (P Q : Type 0) (r : Result Out4 NoMemory) → (P → ⊥) → OnErr r P → OnErr r Q
@@ -47,11 +47,11 @@ roomless turn said state step c goes told =
 pub returns-clause-awaited : goal.returns-clause-awaited
 returns-clause-awaited c =
     gone _ _ c.go.result
-    (roomless c.turn.result c.in_ok-answer.answer c.c.inside.state c.heard_row-step.result c.bring.new.self c.heard_row-step.ensures)
+    (roomless c.turn.result c.answer_to-answer.result c.c.inside.state c.heard_row-step.result c.bring.new.self c.heard_row-step.ensures)
     c.go.ensures.memory
 
 pub returns-clause-memory : goal.returns-clause-memory
 returns-clause-memory c =
     gone _ _ c.go.result
-    (roomless c.turn.result c.in_ok-answer.answer c.c.inside.state c.heard_row-step.result c.bring.new.self c.heard_row-step.ensures)
+    (roomless c.turn.result c.answer_to-answer.result c.c.inside.state c.heard_row-step.result c.bring.new.self c.heard_row-step.ensures)
     c.go.ensures.memory
