@@ -38,6 +38,10 @@ MachineDues = TimedMachine → Option ℕ
 abbrev pub dues_of : Iface → MachineDues
 dues_of iface machine = machine_due machine iface
 
+-- how many machines of the interface at a place are asked when its moments are kept
+abbrev pub looks_at : (place : ℕ) → ℕ
+looks_at place = if nat_lt place 64 then 3 else 0
+
 -- no machine is ever due
 abbrev pub never : MachineDues
 never machine = None
