@@ -6,7 +6,7 @@ ghost use Rattle.std.specs.FinMap as map;
 ghost use Rattle.std.specs.List.{list_any};
 ghost use Rattle.timer_queue.specs.Moments.{due_after, IsEarliest};
 ghost use Rattle.iface_core.specs.Looks.{looked};
-ghost use Rattle.client_core.specs.Due.{PutsMoments, dues_of, is_taken, looks_at, number_of, place_in, rank_of};
+ghost use Rattle.client_core.specs.Due.{PutsMoments, dues_of, is_taken, looks_after, number_of, place_in, rank_of};
 ghost use Rattle.client_core.specs.Places.{has};
 
 use crate::places::{PLACES, Places};
@@ -115,7 +115,7 @@ impl Dues {
     /// counted.
     pub fn put(&mut self, place: usize, iface: &Iface, looks: &mut u64)
         ensures puts { PutsMoments place (dues_of iface.now) self.old self.new }
-        ensures counted { looks.new ≡ looked (looks_at place) looks.old }
+        ensures counted { looks.new ≡ looks_after place looks.old }
     {
         if place < PLACES {
             put_each(&mut self.queue, place, iface, looks);

@@ -5,8 +5,7 @@ ghost use Rattle.settings.specs.Fitting.{FitsManaged};
 ghost use Rattle.client_model.specs.Fitting.{AreIfaces};
 ghost use Rattle.client_model.specs.IfaceSteps.{index_of};
 ghost use Rattle.iface_core.specs.Inputs.{turn_of};
-ghost use Rattle.iface_core.specs.Looks.{looked};
-ghost use Rattle.client_core.specs.Due.{looks_at};
+ghost use Rattle.client_core.specs.Due.{looks_after};
 ghost use Rattle.client_core.specs.Renewing.{HasPlace, IsAt, Renews, Takes};
 ghost use Rattle.client_core.specs.Running.{IsRunning};
 ghost use Rattle.client_core.specs.Touched.{may_show};
@@ -101,7 +100,7 @@ impl Kept {
         requires place { HasPlace place self.old }
         requires same { may_show changes ≡ false → IsAt place iface.now self.old }
         ensures renews { IfOk result (λ renewed. Renews place iface.now renewed self.old self.new) }
-        ensures counted { looks.new ≡ looked (looks_at place) looks.old }
+        ensures counted { looks.new ≡ looks_after place looks.old }
     {
         self.dues.put(place, iface, looks);
         let may_differ = changes.may_show();
