@@ -1,6 +1,6 @@
 mod JudgedRows
-mod LinesWalked
-mod LivesWalked
+pub mod LinesWalked
+pub mod LivesWalked
 mod FirstLacking
 pub mod Found
 pub mod CallsTold

@@ -9,6 +9,7 @@ pub mod ItemRows
 pub mod JobsAlong
 pub mod Joined
 pub mod LeaseValues
+pub mod Looking
 pub mod Naming
 pub mod Numbers
 pub mod Putting

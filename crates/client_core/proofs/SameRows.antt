@@ -1,6 +1,6 @@
 -- Where nothing is new of an interface, its rows are as before, and what it tells the resolver; where it didn't lose a kept lease of
 -- DHCPv4 either, its kept leases.
-use Rattle.std.proofs.Common.{◌≡◌, ◌+◌, ◌≤◌, ℕ, true, false, ◌&&◌, not, Option, Some, None, List, [], ◌∷◌, ◌++◌, map, length, refl, sym, ap, subst, ◌∙◌, arith, length-append}
+use Rattle.std.proofs.Common.{◌≡◌, ◌+◌, ◌≤◌, ℕ, true, false, ◌&&◌, not, Option, Some, None, List, [], ◌∷◌, ◌++◌, length, refl, sym, ap, subst, ◌∙◌, arith, length-append}
 use Rattle.std.specs.Option.{is_some}
 use Rattle.net_types.specs.declared.address.Mac.{Mac}
 use Rattle.client_model.specs.declared.interfaces.Iface.{Iface}

@@ -8,6 +8,7 @@ use Rattle.client_model.specs.declared.machines.TimedMachine.TheVariants.{Dhcp4,
 use Rattle.timer_queue.specs.Moments.{Moments, due_by}
 use Rattle.client_model.specs.declared.interfaces.Iface.{Iface}
 use Rattle.client_model.specs.Interfaces.{machine_due}
+use Rattle.iface_core.specs.Looks.{looked}
 
 -- a machine's rank among those of its interface
 abbrev pub rank_of : TimedMachine → ℕ
@@ -37,6 +38,10 @@ MachineDues = TimedMachine → Option ℕ
 
 abbrev pub dues_of : Iface → MachineDues
 dues_of iface machine = machine_due machine iface
+
+-- each machine of the interface at a place is asked once when its moments are kept
+abbrev pub looks_after : (place : ℕ) → (looks : ℕ) → ℕ
+looks_after place looks = if nat_lt place 64 then looked 3 looks else looks
 
 -- no machine is ever due
 abbrev pub never : MachineDues

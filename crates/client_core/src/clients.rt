@@ -257,7 +257,7 @@ pub fn core_due(core: &Core) -> Option<u64>
     first_due(&core.kept.dues, &core.ifaces)
 }
 
-/// How many interfaces had a turn of their own in the last step. The others had nothing to do.
+/// How often interfaces were asked in the last step when they are due. Those that had nothing to do weren't asked.
 pub fn looks(core: &Core) -> u64 {
     core.looks
 }

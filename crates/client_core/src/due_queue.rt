@@ -5,12 +5,13 @@ ghost use Rattle.std.specs.Prelude.{◌≡◌, ◌==◌, ℕ, ◌<◌, if◌then
 ghost use Rattle.std.specs.FinMap as map;
 ghost use Rattle.std.specs.List.{list_any};
 ghost use Rattle.timer_queue.specs.Moments.{due_after, IsEarliest};
-ghost use Rattle.client_core.specs.Due.{PutsMoments, dues_of, is_taken, number_of, place_in, rank_of};
+ghost use Rattle.iface_core.specs.Looks.{looked};
+ghost use Rattle.client_core.specs.Due.{PutsMoments, dues_of, is_taken, looks_after, number_of, place_in, rank_of};
 ghost use Rattle.client_core.specs.Places.{has};
 
 use crate::places::{PLACES, Places};
 use client_model::{Iface, TimedMachine};
-use iface_core::machine_due;
+use iface_core::look;
 use net_types::NoMemory;
 use std::alloc::Global;
 use std::marker::Model;
@@ -87,13 +88,15 @@ fn put_one(queue: &mut Queue<NUMBERS>, place: usize, machine: TimedMachine, due:
     }
 }
 
-/// Says when the machines of the interface at a place are due.
-fn put_each(queue: &mut Queue<NUMBERS>, place: usize, iface: &Iface)
+/// Says when the machines of the interface at a place are due, which is asked of each.
+fn put_each(queue: &mut Queue<NUMBERS>, place: usize, iface: &Iface, looks: &mut u64)
     requires { place < 64 }
-    ensures { PutsMoments place (dues_of iface.now) queue.old queue.new }
+    ensures puts { PutsMoments place (dues_of iface.now) queue.old queue.new }
+    ensures counted { looks.new ≡ looked 3 looks.old }
 {
     for machine in &MACHINES {
-        put_one(queue, place, *machine, machine_due(iface, *machine));
+        let due = look(iface, *machine, looks);
+        put_one(queue, place, *machine, due);
     }
 }
 
@@ -108,12 +111,14 @@ impl Dues {
         })
     }
 
-    /// Says when the machines of the interface at a place are due, where that is below 64.
-    pub fn put(&mut self, place: usize, iface: &Iface)
-        ensures { PutsMoments place (dues_of iface.now) self.old self.new }
+    /// Says when the machines of the interface at a place are due, where that is below 64. That each was asked for it is
+    /// counted.
+    pub fn put(&mut self, place: usize, iface: &Iface, looks: &mut u64)
+        ensures puts { PutsMoments place (dues_of iface.now) self.old self.new }
+        ensures counted { looks.new ≡ looks_after place looks.old }
     {
         if place < PLACES {
-            put_each(&mut self.queue, place, iface);
+            put_each(&mut self.queue, place, iface, looks);
         }
     }
 

@@ -16,8 +16,10 @@ pub fn queue_of(alloc: Global, ifaces: &[Iface]) -> Result<Dues, NoMemory>
     ensures { IfOk result (λ dues. AreMoments (map dues_of ifaces.now) dues) }
 {
     let mut dues = Dues::new(alloc)?;
+    // an opening isn't a step, of which this is counted
+    let mut looks = 0;
     'places: for place in 0..ifaces.len() {
-        dues.put(place, &ifaces[place]);
+        dues.put(place, &ifaces[place], &mut looks);
     }
     Ok(dues)
 }

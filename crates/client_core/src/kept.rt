@@ -5,6 +5,7 @@ ghost use Rattle.settings.specs.Fitting.{FitsManaged};
 ghost use Rattle.client_model.specs.Fitting.{AreIfaces};
 ghost use Rattle.client_model.specs.IfaceSteps.{index_of};
 ghost use Rattle.iface_core.specs.Inputs.{turn_of};
+ghost use Rattle.client_core.specs.Due.{looks_after};
 ghost use Rattle.client_core.specs.Renewing.{HasPlace, IsAt, Renews, Takes};
 ghost use Rattle.client_core.specs.Running.{IsRunning};
 ghost use Rattle.client_core.specs.Touched.{may_show};
@@ -85,20 +86,23 @@ impl Kept {
         due.or(called_places(&self.named, turn))
     }
 
-    /// Brings what is kept of the interface at a place up to date.
+    /// Brings what is kept of the interface at a place up to date. How often its machines are asked when they are due is
+    /// counted.
     pub fn renew(
         &mut self,
         alloc: Global,
         place: usize,
         iface: &Iface,
         changes: Changes,
+        looks: &mut u64,
     ) -> Result<Renewed, NoMemory>
         requires fit { FitsManaged iface.now.managed }
         requires place { HasPlace place self.old }
         requires same { may_show changes ≡ false → IsAt place iface.now self.old }
-        ensures { IfOk result (λ renewed. Renews place iface.now renewed self.old self.new) }
+        ensures renews { IfOk result (λ renewed. Renews place iface.now renewed self.old self.new) }
+        ensures counted { looks.new ≡ looks_after place looks.old }
     {
-        self.dues.put(place, iface);
+        self.dues.put(place, iface, looks);
         let may_differ = changes.may_show();
         let rows = renew_rows(alloc, &mut self.tables, place, iface, may_differ)?;
         let resolver = renew_parts(alloc, &mut self.parts, place, iface, may_differ)?;

@@ -1,4 +1,4 @@
-ghost use Rattle.std.specs.Prelude.{◌≡◌, ◌&&◌, ◌++◌, not, List, [], Some, is_some, map, IfOk, OnOk};
+ghost use Rattle.std.specs.Prelude.{◌≡◌, ◌≤◌, ◌*◌, ◌&&◌, ◌++◌, not, List, [], Some, is_some, length, map, IfOk, OnOk};
 ghost use Rattle.net_types.specs.Moments.{IsMoment};
 ghost use Rattle.world.specs.HookCalls.{job_of};
 ghost use Rattle.world.specs.declared.rows.HostRow.{HostRow};
@@ -8,6 +8,7 @@ ghost use Rattle.client_model.specs.Jobs.{jobs_along};
 ghost use Rattle.client_model.specs.WantedRows.{wanted_rows};
 ghost use Rattle.host_tables.specs.Unions.{Sums};
 ghost use Rattle.iface_core.specs.Inputs.{turn_of};
+ghost use Rattle.iface_core.specs.Looks.{looked};
 ghost use Rattle.iface_core.specs.Outcomes.{Goes, asked_in};
 ghost use Rattle.client_core.specs.declared.effects.Resolver.TheVariants.{Same};
 ghost use Rattle.client_core.specs.Leading.{Leads, LeadsOn};
@@ -40,12 +41,14 @@ fn is_lost(before: bool, after: bool) -> bool
 }
 
 /// A turn of an interface. Where nothing is new its rows are as before, what it tells the resolver, and its kept
-/// leases; but one of DHCPv4 is given up where its address is declined.
+/// leases; but one of DHCPv4 is given up where its address is declined. Each of its machines is asked once when it is
+/// due, which is counted.
 fn turn_iface(
     iface: &mut Iface,
     turn: &Turn<'_>,
     own: &[Mac],
     outs: &mut Outs,
+    looks: &mut u64,
 ) -> Result<Changes, NoMemory>
     requires at { IsMoment turn.now.at }
     requires fits { FitsManaged iface.old.managed }
@@ -53,10 +56,11 @@ fn turn_iface(
         (Goes (iface_turned own.now (turn_of turn.now) iface.old) iface.new (asked_in outs.old)
         (asked_in outs.new)) }
     ensures leaves { IfOk result (λ changes. LeavesBut changes iface.old iface.new) }
+    ensures counted { OnOk result (looks.new ≡ looked 3 looks.old) }
 {
     let told = outs.news.len();
     let had_lease = keeps_lease(iface);
-    iface_turn(iface, turn, own, outs)?;
+    iface_turn(iface, turn, own, outs, looks)?;
     let is_new = outs.news.len() > told;
     if is_new {
         return Ok(Changes::All);
@@ -77,8 +81,10 @@ pub struct AllTurned {
     /// How the rows changed that the host is to hold.
     pub rows: Diff,
     /// How many interfaces had a turn of their own.
+    pub turns: usize,
+    /// How often a machine was asked when it is due.
     pub looks: u64,
-    /// How many of them brought other rows.
+    /// How many of the interfaces brought other rows.
     pub changes: u64,
 }
 
@@ -87,7 +93,6 @@ pub struct AllTurned {
 struct Walk {
     touched: Touched,
     rows: Diffs,
-    looks: u64,
     changes: u64,
 }
 
@@ -104,7 +109,6 @@ impl Walk {
                 resolver: Resolver::Same,
             },
             rows: Diffs::none(alloc),
-            looks: 0,
             changes: 0,
         }
     }
@@ -125,7 +129,6 @@ impl Walk {
         ensures resolver { OnOk result (self.new.touched.resolver ≡ either self.old.touched.resolver renewed.resolver) }
         ensures rows { OnOk result (LeadsOn renewed.rows self.old.rows self.new.rows) }
     {
-        self.looks = self.looks.saturating_add(1);
         note(&mut self.touched.ifaces, changes.may_keep(), index)?;
         self.touched.resolver = self.touched.resolver.or(renewed.resolver);
         match renewed.rows {
@@ -136,7 +139,8 @@ impl Walk {
 }
 
 /// A turn of each interface that has something to do, in order, after which what is kept of it is up to date and what
-/// it told hooks has become jobs.
+/// it told hooks has become jobs. Of up to 64 interfaces, each that has a turn is asked six times when it is due: each
+/// of its machines once in the turn, and once after it.
 pub fn turn_all(
     ifaces: &mut [Iface],
     kept: &mut Kept,
@@ -158,22 +162,28 @@ pub fn turn_all(
         ≡ map job_of jobs.old.items
         ++ jobs_along [] ifaces.old (map (iface_turned own.now (turn_of turn.now)) ifaces.old)) }
     ensures leads { IfOk result (λ turned. Leads turned.rows (wanted_rows ifaces.old) (wanted_rows ifaces.new)) }
+    ensures looks { IfOk result (λ turned. length ifaces.old ≤ 64 → turned.looks ≡ 6 * turned.turns) }
+    ensures turns { IfOk result (λ turned. turned.turns ≤ length ifaces.old) }
 {
     let alloc = *jobs.allocator();
     let busy = kept.take(turn);
     let mut walk = Walk::new(alloc);
+    let mut turns = 0;
+    let mut looks = 0;
     let mut place = busy.next_from(0, ifaces.len());
     'places: while place < ifaces.len() {
-        let changes = turn_iface(&mut ifaces[place], turn, own, outs)?;
-        let renewed = kept.renew(alloc, place, &ifaces[place], changes)?;
+        let changes = turn_iface(&mut ifaces[place], turn, own, outs, &mut looks)?;
+        let renewed = kept.renew(alloc, place, &ifaces[place], changes, &mut looks)?;
         walk.add(ifaces[place].managed.spec.index, changes, renewed)?;
         make_jobs(jobs, ifaces, outs)?;
+        turns += 1;
         place = busy.next_from(place + 1, ifaces.len());
     }
     Ok(AllTurned {
         touched: walk.touched,
         rows: walk.rows.into_diff(alloc)?,
-        looks: walk.looks,
+        turns,
+        looks,
         changes: walk.changes,
     })
 }

@@ -72,7 +72,7 @@ fn a_turn_asks_those_alone_that_are_due(rt: HostRuntime) -> Result<(), Fail> {
     assert_eq!(rt; core_due(&core), Some(1001));
     let stepped = step(core, quiet(1001))?;
     assert_eq!(rt; stepped.outs.sends.len(), 1);
-    assert_eq!(rt; looks(&stepped.core), 1);
+    assert_eq!(rt; looks(&stepped.core), 6);
     assert_eq!(rt; changes(&stepped.core), 0);
     let stepped = step(stepped.core, quiet(1002))?;
     assert_eq!(rt; looks(&stepped.core), 0);
@@ -94,7 +94,7 @@ fn a_turn_asks_those_alone_that_are_called(rt: HostRuntime) -> Result<(), Fail> 
         ..quiet(1002)
     };
     let stepped = step(stepped.core, turn)?;
-    assert_eq!(rt; looks(&stepped.core), 1);
+    assert_eq!(rt; looks(&stepped.core), 6);
     assert_eq!(rt; changes(&stepped.core), 1);
     assert!(rt; stepped.rows.gone.is_empty());
     assert!(rt; !stepped.rows.come.is_empty());
@@ -103,7 +103,7 @@ fn a_turn_asks_those_alone_that_are_called(rt: HostRuntime) -> Result<(), Fail> 
         ..quiet(1003)
     };
     let stepped = step(stepped.core, turn)?;
-    assert_eq!(rt; looks(&stepped.core), 3);
+    assert_eq!(rt; looks(&stepped.core), 18);
     let stepped = step(stepped.core, quiet(1003))?;
     assert_eq!(rt; looks(&stepped.core), 0);
     Ok(())
@@ -116,7 +116,7 @@ fn a_stop_asks_all(rt: HostRuntime) -> Result<(), Fail> {
         ..quiet(1001)
     };
     let stepped = step(core(rt.alloc())?, turn)?;
-    assert_eq!(rt; looks(&stepped.core), 64);
+    assert_eq!(rt; looks(&stepped.core), 384);
     assert_eq!(rt; changes(&stepped.core), 1);
     assert!(rt; rows(&stepped.core).is_empty());
     Ok(())

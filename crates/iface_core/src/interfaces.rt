@@ -16,6 +16,7 @@ ghost use Rattle.client_model.specs.Fitting.{FitsBeginning};
 ghost use Rattle.client_model.specs.IfaceSteps.{index_of};
 ghost use Rattle.client_model.specs.Interfaces as run;
 ghost use Rattle.iface_core.specs.Beginnings.{beginning_of};
+ghost use Rattle.iface_core.specs.Looks.{looked};
 ghost use Rattle.iface_core.specs.Outcomes.{Goes, asked_in};
 
 use crate::beginnings::Beginning;
@@ -251,6 +252,15 @@ pub fn machine_due(iface: &Iface, machine: TimedMachine) -> Option<u64>
         TimedMachine::LinkLocal => iface.local.due(),
         TimedMachine::Dhcp6 => iface.dhcp6.due(),
     }
+}
+
+/// The next moment at which a machine of the interface is due. That it was asked for is counted.
+pub fn look(iface: &Iface, machine: TimedMachine, looks: &mut u64) -> Option<u64>
+    ensures due { result ≡ run.machine_due machine iface.now }
+    ensures counted { looks.new ≡ looked 1 looks.old }
+{
+    *looks = looks.saturating_add(1);
+    machine_due(iface, machine)
 }
 
 /// The earlier of two moments, where there are any.

@@ -23,7 +23,7 @@ pub use dhcp6::{asks_of, runs_dhcp6};
 pub use inputs::{Turn, TurnInput};
 pub use interfaces::{
     contains, earlier_of, iface_due, iface_held, iface_kept, iface_kept6, iface_lease,
-    iface_lease6, iface_open, machine_due,
+    iface_lease6, iface_open, look, machine_due,
 };
 pub use outs::{Outs, Sending, Told};
 pub use sharing::{first_address, shares_of};

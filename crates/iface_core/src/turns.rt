@@ -8,12 +8,13 @@ ghost use Rattle.v6_frames.specs.Heard.{heard6_in};
 ghost use Rattle.client_model.specs.Interfaces as run;
 ghost use Rattle.client_model.specs.IfaceTurns.{arp_heard, hears, hears_message6, hears_packet, iface_turned};
 ghost use Rattle.iface_core.specs.Inputs.{hears_server, input_of, turn_of};
+ghost use Rattle.iface_core.specs.Looks.{looked};
 ghost use Rattle.iface_core.specs.Outcomes.{Goes, asked_in};
 
 use crate::dhcp4::{hear_message, hear_packet, tick_dhcp4};
 use crate::dhcp6::{contest, hear_message6, tick_dhcp6};
 use crate::inputs::{Turn, TurnInput};
-use crate::interfaces::{carry, contains, halt, machine_due, rebind, release};
+use crate::interfaces::{carry, contains, halt, look, rebind, release};
 use crate::local::{hear_local, tick_local};
 use crate::outs::Outs;
 use client_model::{Iface, TimedMachine};
@@ -58,20 +59,22 @@ pub fn iface_tick(
     }
 }
 
-/// Ticks a machine where it is due; where it isn't, a tick would change nothing and say nothing.
+/// Ticks a machine where it is due, for which it is asked once; where it isn't, a tick would change nothing and say nothing.
 fn tick_if_due(
     iface: &mut Iface,
     machine: TimedMachine,
     turn: &Turn<'_>,
     outs: &mut Outs,
+    looks: &mut u64,
 ) -> Result<(), NoMemory>
     requires at { IsMoment turn.now.at }
     requires fits { FitsManaged iface.old.managed }
-    ensures { OnOk result
+    ensures goes { OnOk result
         (Goes (run.machine_ticked machine turn.now.at turn.now.salt iface.old) iface.new (asked_in outs.old)
         (asked_in outs.new)) }
+    ensures counted { looks.new ≡ looked 1 looks.old }
 {
-    if has_come(machine_due(iface, machine), turn.at) {
+    if has_come(look(iface, machine, looks), turn.at) {
         iface_tick(iface, machine, turn.at, turn.salt, outs)
     } else {
         Ok(())
@@ -228,30 +231,39 @@ fn restart(iface: &mut Iface, turn: &Turn<'_>)
 }
 
 /// The ticks of the machines that are due, in order.
-fn tick_machines(iface: &mut Iface, turn: &Turn<'_>, outs: &mut Outs) -> Result<(), NoMemory>
+fn tick_machines(
+    iface: &mut Iface,
+    turn: &Turn<'_>,
+    outs: &mut Outs,
+    looks: &mut u64,
+) -> Result<(), NoMemory>
     requires at { IsMoment turn.now.at }
     requires fits { FitsManaged iface.old.managed }
-    ensures { OnOk result
+    ensures goes { OnOk result
         (Goes (run.ticked turn.now.at turn.now.salt iface.old) iface.new (asked_in outs.old) (asked_in outs.new)) }
+    ensures counted { OnOk result (looks.new ≡ looked 3 looks.old) }
 {
-    tick_if_due(iface, TimedMachine::Dhcp4, turn, outs)?;
-    tick_if_due(iface, TimedMachine::LinkLocal, turn, outs)?;
-    tick_if_due(iface, TimedMachine::Dhcp6, turn, outs)
+    tick_if_due(iface, TimedMachine::Dhcp4, turn, outs, looks)?;
+    tick_if_due(iface, TimedMachine::LinkLocal, turn, outs, looks)?;
+    tick_if_due(iface, TimedMachine::Dhcp6, turn, outs, looks)
 }
 
-/// A turn of an interface: a failed send of the turn before, the ticks of its machines, then the input.
+/// A turn of an interface: a failed send of the turn before, the ticks of its machines, then the input. Each machine is
+/// asked once when it is due, which is counted.
 pub fn iface_turn(
     iface: &mut Iface,
     turn: &Turn<'_>,
     own: &[Mac],
     outs: &mut Outs,
+    looks: &mut u64,
 ) -> Result<(), NoMemory>
     requires at { IsMoment turn.now.at }
     requires fits { FitsManaged iface.old.managed }
-    ensures { OnOk result
+    ensures goes { OnOk result
         (Goes (iface_turned own.now (turn_of turn.now) iface.old) iface.new (asked_in outs.old) (asked_in outs.new)) }
+    ensures counted { OnOk result (looks.new ≡ looked 3 looks.old) }
 {
     restart(iface, turn);
-    tick_machines(iface, turn, outs)?;
+    tick_machines(iface, turn, outs, looks)?;
     iface_input(iface, turn, own, outs)
 }

@@ -42,7 +42,7 @@ pub(crate) fn kept4_turned(
         return Ok(kept.rests(site, entry));
     }
     let messages = lease.messages(alloc, site, entry)?;
-    let said = lease.answer(alloc, site, entry)?;
+    let said = lease.answer(site, entry);
     Ok(kept.turned(site, entry, &messages, said))
 }
 

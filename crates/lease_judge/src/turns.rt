@@ -66,72 +66,50 @@ fn message_on<'a>(site: &Site, entry: &'a Entry) -> Option<Heard4<'a>>
 }
 
 /// What the input of a turn says in an exchange: an ACK with its terms, or a NAK, where it is acceptable.
-fn reply_to(
-    alloc: Global,
-    set: &Set4,
-    site: &Site,
-    entry: &Entry,
-    exchange: Exchange4,
-) -> Result<Answer4, NoMemory>
+fn reply_to(set: &Set4, site: &Site, entry: &Entry, exchange: Exchange4) -> Answer4
     requires { IsMoment exchange.first }
-    ensures { IfOk result
-        (λ answer. answer
-        ≡ reply_by (settings_content set.now) exchange (arrival_in (site_shown site.now) (entry_shown entry.now))) }
+    ensures { result
+        ≡ reply_by (settings_content set.now) exchange (arrival_in (site_shown site.now) (entry_shown entry.now)) }
 {
     let Some(heard) = message_on(site, entry) else {
-        return Ok(Answer4::Nothing);
+        return Answer4::Nothing;
     };
     let arrival = Arrival4 {
         message: heard.message,
         source: heard.source,
         at: entry.moment,
     };
-    reply_in(alloc, set, &arrival, exchange)
+    reply_in(set, &arrival, exchange)
 }
 
 /// What is kept after what a server says in the open exchange. The first ACK of an exchange is its answer: what comes
 /// after it in that exchange counts for nothing.
-fn heard(
-    alloc: Global,
-    set: &Set4,
-    site: &Site,
-    entry: &Entry,
-    watch: Watch,
-) -> Result<Watch, NoMemory>
+fn heard(set: &Set4, site: &Site, entry: &Entry, watch: Watch) -> Watch
     requires { HasMoments watch }
-    ensures shown { IfOk result
-        (λ next. judge_shown next
-        ≡ hears_by (settings_content set.now) (site_shown site.now) (entry_shown entry.now) (judge_shown watch)) }
-    ensures moments { IfOk result HasMoments }
+    ensures shown { judge_shown result
+        ≡ hears_by (settings_content set.now) (site_shown site.now) (entry_shown entry.now) (judge_shown watch) }
+    ensures moments { HasMoments result }
 {
     let Some(opened) = watch.seen.current else {
-        return Ok(watch);
+        return watch;
     };
     if watch.answered == opened.number {
-        return Ok(watch);
+        return watch;
     }
-    let answer = reply_to(alloc, set, site, entry, opened.exchange)?;
-    Ok(watch.told(opened, answer))
+    watch.told(opened, reply_to(set, site, entry, opened.exchange))
 }
 
 /// What the input of a turn says in the exchange that is open.
-fn answer_in(
-    alloc: Global,
-    set: &Set4,
-    site: &Site,
-    entry: &Entry,
-    seen: &Seen,
-) -> Result<Answer4, NoMemory>
+fn answer_in(set: &Set4, site: &Site, entry: &Entry, seen: &Seen) -> Answer4
     requires { HasMoment seen.now }
-    ensures { IfOk result
-        (λ answer. answer
+    ensures { result
         ≡ answer_by (settings_content set.now) (site_shown site.now) (entry_shown entry.now)
-        (seen_shown seen.now).current) }
+        (seen_shown seen.now).current }
 {
     let Some(opened) = seen.current else {
-        return Ok(Answer4::Nothing);
+        return Answer4::Nothing;
     };
-    reply_to(alloc, set, site, entry, opened.exchange)
+    reply_to(set, site, entry, opened.exchange)
 }
 
 impl LeaseJudge {
@@ -161,7 +139,7 @@ impl LeaseJudge {
         let seen = self
             .watch
             .sees(entry.moment, site.index(), entry.event, &messages)?;
-        let watch = heard(alloc, &self.set, site, entry, seen)?;
+        let watch = heard(&self.set, site, entry, seen);
         let probes = self.probes.turned(alloc, site, entry, calm)?;
         Ok(LeaseJudge {
             set: self.set,
@@ -187,13 +165,12 @@ impl LeaseJudge {
 
     /// What a server says in a turn, in the exchange that is open after the turns so far (RFC 2131, section 3.2).
     #[tactic(auto, using(crate::proofs::AnswersTold::answer_so))]
-    pub fn answer(&self, alloc: Global, site: &Site, entry: &Entry) -> Result<Answer4, NoMemory>
-        ensures { IfOk result
-            (λ answer. (past : List told_entries.Entry) → Tells self.now (site_shown site.now) past
-            → answer
-            ≡ answer_in (site_shown site.now) (entry_shown entry.now) (seen_in (site_shown site.now) past).current) }
+    pub fn answer(&self, site: &Site, entry: &Entry) -> Answer4
+        ensures { (past : List told_entries.Entry) → Tells self.now (site_shown site.now) past
+            → result
+            ≡ answer_in (site_shown site.now) (entry_shown entry.now) (seen_in (site_shown site.now) past).current }
     {
-        answer_in(alloc, &self.set, site, entry, &self.watch.seen)
+        answer_in(&self.set, site, entry, &self.watch.seen)
     }
 
     /// Whether an address has its basis as a leased one at a moment in milliseconds since 1970.

@@ -8,6 +8,6 @@ mod EndLaws
 mod LoopLaws
 mod HeadLaws
 mod ConfLaws
-mod NoticeLaws
+pub mod NoticeLaws
 mod TranscriptLaws
 mod SameLaws

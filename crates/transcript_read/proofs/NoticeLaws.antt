@@ -82,13 +82,13 @@ lossy_within (suc k) text lacks =
     (lacks-append 10 replacement_bytes (utf8_lossy_within k rest) refl
     (lossy_within k rest (lacks_drop (n + utf8_invalid_len (drop n text)) text lacks))))
 
-lossy_lacks : (text : List ℕ) → InOneLine text → InOneLine (utf8_lossy text)
+pub lossy_lacks : (text : List ℕ) → InOneLine text → InOneLine (utf8_lossy text)
 unfolding utf8_lossy
 lossy_lacks text lacks = lossy_within (length text) text lacks
 
 -- ---- words
 
-abbrev Words : List (List ℕ) → Type 0
+abbrev pub Words : List (List ℕ) → Type 0
 Words words = AllByRecursion InOneLine words
 
 onto_words : (byte : ℕ) (words : List (List ℕ)) → not (eqb byte 10) ≡ true → Words words → Words (onto_first byte words)
@@ -253,11 +253,11 @@ says_noted (Some (names.Value name)) word about answer good rest says =
 
 -- ---- lines where they stand
 
-record IsOneLine (line : Directive) : Type 0 where
+pub record IsOneLine (line : Directive) : Type 0 where
   word : InOneLine line.word
   about : InOneLine line.about
 
-abbrev NotedStanding : Standing → Type 0
+abbrev pub NotedStanding : Standing → Type 0
 NotedStanding stands = Words (said_of stands).notices
 
 in_block_noted : (alone : Bool) (line : Directive) (said : Option SaidContent) → IsOneLine line → SaysInBlock alone line said → IfSome said Noted
@@ -284,7 +284,7 @@ standing_noted (Some Profile) place line stands one here = subst NotedStanding (
 standing_noted (Some Ssid) place line stands one here = subst NotedStanding (sym here) (one.word, tt)
 standing_noted None place line stands one here = subst NotedStanding (sym here.2) (line_noted place line here.0 (at_noted place line here.0 one here.1))
 
-front_noted : (place : Place) (lines : List Directive) (front : List Standing) (rest : List Directive) → AllByRecursion IsOneLine lines
+pub front_noted : (place : Place) (lines : List Directive) (front : List Standing) (rest : List Directive) → AllByRecursion IsOneLine lines
     → StandFrom place lines front rest → AllByRecursion NotedStanding front
 front_noted place lines [] rest each stand = tt
 front_noted place [] (stands ∷ front) rest each stand = absurd stand
@@ -304,14 +304,14 @@ from_one_line number words (Some directive) lacks e =
       | false ↦ λ q. (subst IsOneLine (some_same q) (record { word = both.0; about = both.1 }), tt)
     ] e
 
-one_line : (number : ℕ) (line : List ℕ) → InOneLine line → AllByRecursion IsOneLine (cons_option (directive_in number line) [])
+pub one_line : (number : ℕ) (line : List ℕ) → InOneLine line → AllByRecursion IsOneLine (cons_option (directive_in number line) [])
 unfolding directive_in
 one_line number line lacks =
     from_one_line number (past parts_words line) (directive_from number (past parts_words line))
     (lacks_parts (front_of parts_words line) (past parts_words line) (subst InOneLine (parted parts_words line) lacks)).1
     refl
 
-cons_lines : (o : Option Directive) (found : List Directive) → AllByRecursion IsOneLine (cons_option o []) → AllByRecursion IsOneLine found
+pub cons_lines : (o : Option Directive) (found : List Directive) → AllByRecursion IsOneLine (cons_option o []) → AllByRecursion IsOneLine found
     → AllByRecursion IsOneLine (cons_option o found)
 cons_lines None found one each = each
 cons_lines (Some directive) found one each = (one.0, each)
@@ -329,7 +329,7 @@ scan_lines number (line ∷ lines) are =
 
 -- ---- notices
 
-number_small : (number : ℕ) → line_number number < 2 ^ 64
+pub number_small : (number : ℕ) → line_number number < 2 ^ 64
 number_small number = omega arith
 
 notice_lacks : (number : ℕ) (word : List ℕ) → InOneLine word → InOneLine (notice_words (notice_of (line_number number) word))

@@ -1,5 +1,5 @@
 -- A message of another exchange, client or server than those of the state changes nothing.
-use Rattle.std.proofs.Common.{◌≡◌, ◌≢◌, ℕ, inl, inr, Bool, true, false, ◌&&◌, ◌||◌, List, Option, Some, None, refl, sym, ◌∙◌, ap, subst, bytes_eq, eqb}
+use Rattle.std.proofs.Common.{◌≡◌, ◌≢◌, ℕ, inl, inr, Bool, true, false, ◌&&◌, List, Option, Some, None, refl, sym, ◌∙◌, ap, subst, bytes_eq, eqb}
 use Rattle.std.specs.Option.{is_some}
 use Rattle.std.proofs.lemmas.Bool.{eqb-true}
 use Rattle.net_types.proofs.CaseLaws.{split}
@@ -13,7 +13,7 @@ use Rattle.v4_client.specs.declared.states.State4.{State4}
 use Rattle.v4_client.specs.declared.states.State4.TheVariants.{Off, Init, Selecting, Requesting, Rebooting, Checking, Waiting, Bound, Renewing, Rebinding}
 use Rattle.v4_client.specs.declared.states.Turn4.{Turn4}
 use Rattle.v4_client.specs.Answers.{is_answer, is_blacklisted, unless_blacklisted, answering, reply_by, answer_of}
-use Rattle.v4_client.specs.Awaited.{is_awaited, is_awaited_by, awaited, may_want_memory}
+use Rattle.v4_client.specs.Awaited.{is_awaited, is_awaited_by, awaited}
 use Rattle.v4_client.specs.Calls.{answer_to}
 use Rattle.v4_client.specs.Clients.{ClientContent, turn_of}
 use Rattle.v4_client.specs.Moves.{IsQuiet, is_grant, moved, told, with_values}
@@ -21,7 +21,7 @@ use Rattle.v4_client.specs.Granting.{kept_values}
 use Rattle.v4_client.specs.Hearing.{heard_row}
 use Rattle.v4_client.specs.Laws.{IgnoresForeign, IsForeign, IsOfOtherServer}
 use Rattle.v4_message.specs.Messages.{address_at}
-use Rattle.v4_client.specs.Messages.{Arrival, has_long_value}
+use Rattle.v4_client.specs.Messages.{Arrival}
 use Rattle.v4_client.specs.Settings.{SettingsContent}
 use Rattle.v4_client.specs.Steps.{rests}
 
@@ -175,17 +175,3 @@ grant_awaited settings arrival state e =
   where
     no : is_grant (answer_of settings arrival state) ≡ false → is_grant (answer_of settings arrival state) ≡ true → ⊥
     no f g = cc
-
--- memory may be wanted for it
-pub grant_wants : (settings : SettingsContent) (arrival : Arrival) (state : State4)
-    → is_grant (answer_of settings arrival state) ≡ true → may_want_memory settings arrival state ≡ true
-grant_wants settings arrival state e = rw e refl
-
--- and for an option that must be there and is long
-pub long_wants : (settings : SettingsContent) (arrival : Arrival) (state : State4)
-    → has_long_value arrival.message.instances settings.required ≡ true → may_want_memory settings arrival state ≡ true
-long_wants settings arrival state e = either (is_grant (answer_of settings arrival state)) _ e
-  where
-    either : (one other : Bool) → other ≡ true → (one || other) ≡ true
-    either true other f = refl
-    either false other f = f

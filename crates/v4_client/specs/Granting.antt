@@ -1,5 +1,5 @@
 -- What an acceptable ACK gives the lease (RFC 2131, sections 4.3.1 and 4.4.1; RFC 2132).
-use Rattle.std.specs.Prelude.{ℕ, ◌*◌, ◌/◌, ◌&&◌, List, [], ◌∷◌, length, Option, Some, None, ◌==◌, nat_lt, nat_le, if◌then◌else◌}
+use Rattle.std.specs.Prelude.{ℕ, ◌*◌, ◌/◌, ◌&&◌, List, [], ◌∷◌, length, Option, Some, None, ◌==◌, nat_lt, if◌then◌else◌}
 use Rattle.std.specs.List.{flat_map}
 use Rattle.net_types.specs.declared.address.Ip4.{Ip4}
 use Rattle.net_types.specs.Networks.{mask_len}
@@ -7,13 +7,12 @@ use Rattle.v4_options.specs.declared.code.TheConstants.{SUBNET_MASK, RENEWAL_TIM
 use Rattle.v4_options.specs.OptionArea.{Instance}
 use Rattle.v4_options.specs.OptionValue.{value_of}
 use Rattle.lease_text.specs.declared.lease.Terms4.{Terms4}
-use Rattle.lease_text.specs.declared.lease.TheConstants.{INFINITE_LEASE, VALUE_LIMIT}
+use Rattle.lease_text.specs.declared.lease.TheConstants.{INFINITE_LEASE}
 use Rattle.lease_text.specs.Leases.{ValueContent, first_byte}
 use Rattle.lease_text.specs.declared.form.TheConstants.{KEPT_CODES}
-use Rattle.lease_text.specs.ValueForms.{is_well_formed}
 use Rattle.v4_client.specs.declared.states.Exchange4.{Exchange4}
 use Rattle.v4_message.specs.Messages.{address_at}
-use Rattle.v4_client.specs.Messages.{Arrival, number_at, is_among}
+use Rattle.v4_client.specs.Messages.{Arrival, can_be_kept, number_at, is_among}
 use Rattle.v4_client.specs.Settings.{SettingsContent}
 use Rattle.v4_client.specs.declared.options.Times4.{Times4}
 
@@ -82,7 +81,7 @@ terms_granted settings arrival exchange server lease =
 abbrev pub kept_value : (code : ℕ) → Option (List ℕ) → List ValueContent
 kept_value code None = []
 kept_value code (Some value) =
-    if nat_le (length value) VALUE_LIMIT && is_well_formed code value
+    if can_be_kept code value
     then record { code = code; bytes = value } ∷ []
     else []
 

@@ -1,10 +1,10 @@
 -- What a client reads of a server's message.
-use Rattle.std.specs.Prelude.{ℕ, Bool, false, List, length, Option, Some, None, ◌==◌, nat_lt}
+use Rattle.std.specs.Prelude.{ℕ, Bool, false, List, length, Option, Some, None, ◌==◌, ◌&&◌, nat_le}
 use Rattle.std.specs.List.{list_any, list_all}
 use Rattle.net_types.specs.declared.address.Mac.{Mac}
 use Rattle.v4_options.specs.OptionArea.{Instance}
 pub use Rattle.v4_options.specs.Numbers.{number_at}
-use Rattle.v4_options.specs.OptionValue.{bytes_at, value_of}
+use Rattle.v4_options.specs.OptionValue.{value_of}
 use Rattle.v4_message.specs.declared.reading.Msg4.{Msg4}
 use Rattle.v4_message.specs.Messages.{Message4, message_of}
 use Rattle.lease_text.specs.declared.lease.TheConstants.{VALUE_LIMIT}
@@ -23,23 +23,20 @@ arrival_from source at message = record { message = message_of message; source =
 abbrev pub arrival_of : Arrival4 → Arrival
 arrival_of arrival = arrival_from arrival.source arrival.at arrival.message
 
--- an option is there where it has an instance, and its value the form of its code
+-- a value has the form of its code, and no more bytes than a lease keeps: a frame can't bring more
+abbrev pub can_be_kept : (code : ℕ) → (value : List ℕ) → Bool
+can_be_kept code value = nat_le (length value) VALUE_LIMIT && is_well_formed code value
+
+-- an option is there where it has an instance, and its value can be kept
 abbrev pub is_value_there : (code : ℕ) → Option (List ℕ) → Bool
 is_value_there code None = false
-is_value_there code (Some value) = is_well_formed code value
+is_value_there code (Some value) = can_be_kept code value
 
 abbrev pub is_there : List Instance → (code : ℕ) → Bool
 is_there instances code = is_value_there code (value_of code instances)
 
 abbrev pub are_there : List Instance → (codes : List ℕ) → Bool
 are_there instances codes = list_all (is_there instances) codes
-
--- an option has a value longer than a lease keeps one, and than a frame can bring
-abbrev pub is_long : (code : ℕ) → List Instance → Bool
-is_long code instances = nat_lt VALUE_LIMIT (length (bytes_at code instances))
-
-abbrev pub has_long_value : List Instance → (codes : List ℕ) → Bool
-has_long_value instances codes = list_any (λ code. is_long code instances) codes
 
 abbrev pub is_among : (codes : List ℕ) → (code : ℕ) → Bool
 is_among codes code = list_any (λ other. other == code) codes

@@ -1,10 +1,9 @@
 //! What a message says to a client: whether it is acceptable in its state.
 
-ghost use Rattle.std.specs.Prelude.{◌≡◌, true, Some, IfOk, OnErr};
+ghost use Rattle.std.specs.Prelude.{◌≡◌, Some};
 ghost use Rattle.net_types.specs.Moments.{IsMoment};
 ghost use Rattle.v4_client.specs.Answers.{answer_of, answering, is_answer, is_blacklisted, is_chosen, is_unexpired, offer_by, offer_of, reply_by, reply_in, reply_of};
-ghost use Rattle.v4_client.specs.Awaited.{is_awaited, is_awaited_by};
-ghost use Rattle.v4_client.specs.Messages.{arrival_of, has_long_value};
+ghost use Rattle.v4_client.specs.Messages.{arrival_of};
 ghost use Rattle.v4_client.specs.Settings.{settings_content};
 ghost use Rattle.v4_client.specs.Sound.{FitsState};
 
@@ -13,8 +12,7 @@ use crate::options::{are_there, terms_granted};
 use crate::settings::Set4;
 use crate::states::{Answer4, Exchange4, State4};
 use lease_text::{INFINITE_LEASE, is_host_address};
-use net_types::{Ip4, Mac, NoMemory};
-use std::alloc::Global;
+use net_types::{Ip4, Mac};
 use v4_message::{MessageKind, Msg4};
 use v4_options::{addr_at, code, u32_at};
 
@@ -54,44 +52,38 @@ fn answering(set: &Set4, xid: u32, arrival: &Arrival4) -> Option<Ip4>
 }
 
 /// What the OFFER of a server says.
-fn offer_of(alloc: Global, set: &Set4, arrival: &Arrival4, server: Ip4) -> Result<Answer4, NoMemory>
-    ensures memory { OnErr result
-        (has_long_value (arrival_of arrival.now).message.instances (settings_content set.now).required ≡ true) }
-    ensures answer { IfOk result
-        (λ answer. answer ≡ offer_of (settings_content set.now) (arrival_of arrival.now) server MessageKind.Offer) }
+fn offer_of(set: &Set4, arrival: &Arrival4, server: Ip4) -> Answer4
+    ensures { result ≡ offer_of (settings_content set.now) (arrival_of arrival.now) server MessageKind.Offer }
 {
     let message = &arrival.message;
     if u32_at(&message.options, code::LEASE_TIME).is_none() {
-        return Ok(Answer4::Nothing);
+        return Answer4::Nothing;
     }
     if !is_host_address(message.yiaddr) {
-        return Ok(Answer4::Nothing);
+        return Answer4::Nothing;
     }
-    if !are_there(alloc, &message.options, &set.required)? {
-        return Ok(Answer4::Nothing);
+    if !are_there(&message.options, &set.required) {
+        return Answer4::Nothing;
     }
-    Ok(Answer4::Offer {
+    Answer4::Offer {
         address: message.yiaddr,
         server,
-    })
+    }
 }
 
 /// What the message of a server says to a client that waits for an offer.
-fn offer_by(alloc: Global, set: &Set4, arrival: &Arrival4, server: Ip4) -> Result<Answer4, NoMemory>
-    ensures memory { OnErr result
-        (has_long_value (arrival_of arrival.now).message.instances (settings_content set.now).required ≡ true) }
-    ensures answer { IfOk result
-        (λ answer. answer ≡ offer_by (settings_content set.now) (arrival_of arrival.now) (Some server)) }
+fn offer_by(set: &Set4, arrival: &Arrival4, server: Ip4) -> Answer4
+    ensures { result ≡ offer_by (settings_content set.now) (arrival_of arrival.now) (Some server) }
 {
     match arrival.message.kind {
-        MessageKind::Offer => offer_of(alloc, set, arrival, server),
+        MessageKind::Offer => offer_of(set, arrival, server),
         MessageKind::Discover
         | MessageKind::Request
         | MessageKind::Decline
         | MessageKind::Ack
         | MessageKind::Nak
         | MessageKind::Release
-        | MessageKind::Inform => Ok(Answer4::Nothing),
+        | MessageKind::Inform => Answer4::Nothing,
     }
 }
 
@@ -114,118 +106,78 @@ pub fn is_unexpired(first: u64, lease: u32, at: u64) -> bool
 }
 
 /// What the ACK of a server says of the exchange.
-fn ack_by(
-    alloc: Global,
-    set: &Set4,
-    exchange: Exchange4,
-    arrival: &Arrival4,
-    server: Ip4,
-) -> Result<Answer4, NoMemory>
+fn ack_by(set: &Set4, exchange: Exchange4, arrival: &Arrival4, server: Ip4) -> Answer4
     requires { IsMoment exchange.first }
-    ensures memory { OnErr result
-        (has_long_value (arrival_of arrival.now).message.instances (settings_content set.now).required ≡ true) }
-    ensures answer { IfOk result
-        (λ answer. answer
-        ≡ reply_of (settings_content set.now) exchange (arrival_of arrival.now) server MessageKind.Ack) }
+    ensures { result ≡ reply_of (settings_content set.now) exchange (arrival_of arrival.now) server MessageKind.Ack }
 {
     let message = &arrival.message;
     let Some(lease) = u32_at(&message.options, code::LEASE_TIME) else {
-        return Ok(Answer4::Nothing);
+        return Answer4::Nothing;
     };
     if message.yiaddr.number != exchange.address.number {
-        return Ok(Answer4::Nothing);
+        return Answer4::Nothing;
     }
     if lease == 0 {
-        return Ok(Answer4::Nothing);
+        return Answer4::Nothing;
     }
     if !is_unexpired(exchange.first, lease, arrival.at) {
-        return Ok(Answer4::Nothing);
+        return Answer4::Nothing;
     }
-    if !are_there(alloc, &message.options, &set.required)? {
-        return Ok(Answer4::Nothing);
+    if !are_there(&message.options, &set.required) {
+        return Answer4::Nothing;
     }
-    let terms = terms_granted(arrival, set, exchange, server, lease);
-    Ok(Answer4::Ack(terms))
+    Answer4::Ack(terms_granted(arrival, set, exchange, server, lease))
 }
 
 /// What the message of a server says of the exchange.
-fn reply_by(
-    alloc: Global,
-    set: &Set4,
-    exchange: Exchange4,
-    arrival: &Arrival4,
-    server: Ip4,
-) -> Result<Answer4, NoMemory>
+fn reply_by(set: &Set4, exchange: Exchange4, arrival: &Arrival4, server: Ip4) -> Answer4
     requires { IsMoment exchange.first }
-    ensures memory { OnErr result
-        (has_long_value (arrival_of arrival.now).message.instances (settings_content set.now).required ≡ true) }
-    ensures answer { IfOk result
-        (λ answer. answer ≡ reply_by (settings_content set.now) exchange (arrival_of arrival.now) (Some server)) }
+    ensures { result ≡ reply_by (settings_content set.now) exchange (arrival_of arrival.now) (Some server) }
 {
     if !is_chosen(exchange.server, server) {
-        return Ok(Answer4::Nothing);
+        return Answer4::Nothing;
     }
     match arrival.message.kind {
-        MessageKind::Ack => ack_by(alloc, set, exchange, arrival, server),
-        MessageKind::Nak => Ok(Answer4::Nak),
+        MessageKind::Ack => ack_by(set, exchange, arrival, server),
+        MessageKind::Nak => Answer4::Nak,
         MessageKind::Discover
         | MessageKind::Offer
         | MessageKind::Request
         | MessageKind::Decline
         | MessageKind::Release
-        | MessageKind::Inform => Ok(Answer4::Nothing),
+        | MessageKind::Inform => Answer4::Nothing,
     }
 }
 
-/// What the message says to a client that waits for an ACK (RFC 2131, section 4.3.1). Memory is wanted as for `answer_of`.
-pub fn reply_in(
-    alloc: Global,
-    set: &Set4,
-    arrival: &Arrival4,
-    exchange: Exchange4,
-) -> Result<Answer4, NoMemory>
+/// What the message says to a client that waits for an ACK (RFC 2131, section 4.3.1). It takes no memory.
+pub fn reply_in(set: &Set4, arrival: &Arrival4, exchange: Exchange4) -> Answer4
     requires { IsMoment exchange.first }
-    ensures memory { OnErr result
-        (has_long_value (arrival_of arrival.now).message.instances (settings_content set.now).required ≡ true) }
-    ensures awaited { OnErr result
-        (is_awaited_by (settings_content set.now) (arrival_of arrival.now) (Some exchange.xid) ≡ true) }
-    ensures answer { IfOk result
-        (λ answer. answer ≡ reply_in (settings_content set.now) (arrival_of arrival.now) exchange) }
+    ensures { result ≡ reply_in (settings_content set.now) (arrival_of arrival.now) exchange }
 {
     match answering(set, exchange.xid, arrival) {
-        Some(server) => reply_by(alloc, set, exchange, arrival, server),
-        None => Ok(Answer4::Nothing),
+        Some(server) => reply_by(set, exchange, arrival, server),
+        None => Answer4::Nothing,
     }
 }
 
-/// What the message says to a client in this state. Memory is wanted only where it is an answer that is waited for, and
-/// only for the value of an option that it must have, where that is longer than `VALUE_LIMIT`.
-pub(crate) fn answer_of(
-    alloc: Global,
-    set: &Set4,
-    arrival: &Arrival4,
-    state: State4,
-) -> Result<Answer4, NoMemory>
+/// What the message says to a client in this state. It takes no memory.
+pub(crate) fn answer_of(set: &Set4, arrival: &Arrival4, state: State4) -> Answer4
     requires { FitsState state }
-    ensures memory { OnErr result
-        (has_long_value (arrival_of arrival.now).message.instances (settings_content set.now).required ≡ true) }
-    ensures awaited { OnErr result (is_awaited (settings_content set.now) (arrival_of arrival.now) state ≡ true) }
-    ensures answer { IfOk result
-        (λ answer. answer ≡ answer_of (settings_content set.now) (arrival_of arrival.now) state) }
+    ensures { result ≡ answer_of (settings_content set.now) (arrival_of arrival.now) state }
 {
     match state {
         State4::Selecting { xid, .. } => match answering(set, xid, arrival) {
-            Some(server) => offer_by(alloc, set, arrival, server),
-            None => Ok(Answer4::Nothing),
+            Some(server) => offer_by(set, arrival, server),
+            None => Answer4::Nothing,
         },
         State4::Requesting { exchange, .. }
         | State4::Rebooting { exchange, .. }
         | State4::Renewing { exchange, .. }
-        | State4::Rebinding { exchange, .. } => reply_in(alloc, set, arrival, exchange),
+        | State4::Rebinding { exchange, .. } => reply_in(set, arrival, exchange),
         State4::Off
         | State4::Init { .. }
         | State4::Checking { .. }
         | State4::Waiting { .. }
-        | State4::Bound { .. } => Ok(Answer4::Nothing),
+        | State4::Bound { .. } => Answer4::Nothing,
     }
 }

@@ -8,12 +8,12 @@ ghost use Rattle.lease_text.specs.Bounds.{FitsLease};
 ghost use Rattle.lease_text.specs.Leases.{lease_content};
 ghost use Rattle.v4_message.specs.Requests.{AskFits, ask_content};
 ghost use Rattle.v4_client.specs.Answers.{answer_of};
-ghost use Rattle.v4_client.specs.Awaited.{is_awaited, may_want_memory};
+ghost use Rattle.v4_client.specs.Awaited.{is_awaited};
 ghost use Rattle.v4_client.specs.Calls.{Hears, answer_to, arp_step, carrier_step, rebind_step, release_step, unsent_step};
 ghost use Rattle.v4_client.specs.Clients.{client_made, held_of, kept_terms, out_content, turn_of};
 ghost use Rattle.v4_client.specs.Moves.{IsStep4, is_grant, takes_room, with_values};
 ghost use Rattle.v4_client.specs.Granting.{kept_values};
-ghost use Rattle.v4_client.specs.Messages.{arrival_from, arrival_of, has_long_value};
+ghost use Rattle.v4_client.specs.Messages.{arrival_from, arrival_of};
 ghost use Rattle.v4_client.specs.Rests.{IsQuietAnswer, Ticks, tick_rests};
 ghost use Rattle.v4_client.specs.Settings.{settings_content};
 ghost use Rattle.v4_client.specs.Sound.{IsSoundStep};
@@ -130,13 +130,10 @@ impl Client4 {
     }
 
     /// What the message says in the state.
-    fn answer_to(&self, arrival: &Arrival4) -> Result<Answer4, NoMemory>
-        ensures memory { OnErr result
-            (has_long_value (arrival_of arrival.now).message.instances self.now.settings.required ≡ true) }
-        ensures awaited { OnErr result (is_awaited self.now.settings (arrival_of arrival.now) self.now.state ≡ true) }
-        ensures answer { IfOk result (λ answer. answer ≡ answer_to (arrival_of arrival.now) self.now) }
+    fn answer_to(&self, arrival: &Arrival4) -> Answer4
+        ensures { result ≡ answer_to (arrival_of arrival.now) self.now }
     {
-        answer_of(self.alloc, &self.set, arrival, self.state)
+        answer_of(&self.set, arrival, self.state)
     }
 
     /// Takes the values that come with an acceptable ACK.
@@ -207,12 +204,11 @@ impl Machine for Client4 {
     }
 }
 
-/// Hears a message whose frame came from the hardware address `from`. Memory is wanted only for an answer that is
-/// waited for, and only where it is an ACK that is taken, or where an option that it must have is longer than
-/// `VALUE_LIMIT`; what is not acceptable changes nothing.
+/// Hears a message whose frame came from the hardware address `from`. Memory is wanted only for an ACK that is taken,
+/// which is an answer that is waited for; what is not acceptable changes nothing.
 pub fn heard4(c: &mut Client4, msg: &Msg4, from: Mac, at: u64, salt: u64) -> Result<Out4, NoMemory>
     ensures memory { OnErr result
-        (may_want_memory c.old.settings (arrival_from from (moment_of at) msg.now) c.old.state ≡ true) }
+        (is_grant (answer_of c.old.settings (arrival_from from (moment_of at) msg.now) c.old.state) ≡ true) }
     ensures awaited { OnErr result
         (is_awaited c.old.settings (arrival_from from (moment_of at) msg.now) c.old.state ≡ true) }
     ensures step { IfOk result
@@ -223,7 +219,7 @@ pub fn heard4(c: &mut Client4, msg: &Msg4, from: Mac, at: u64, salt: u64) -> Res
         source: from,
         at: clamp_moment(at),
     };
-    let answer = c.answer_to(&arrival)?;
+    let answer = c.answer_to(&arrival);
     let step = heard_row(c.turn(arrival.at, salt), answer, c.state);
     c.bring(answer, &msg.options)?;
     c.go(step)

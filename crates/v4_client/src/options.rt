@@ -1,12 +1,12 @@
 //! What a client reads of a message's options.
 
-ghost use Rattle.std.specs.Prelude.{◌≡◌, ◌≤◌, ◌++◌, true, option_map, IfNone, IfOk, IfSome, OnErr, OnOk};
+ghost use Rattle.std.specs.Prelude.{◌≡◌, ◌<◌, ◌≤◌, ◌++◌, length, option_map, IfNone, IfOk, IfSome, OnOk};
 ghost use Rattle.v4_options.specs.Numbers.{number_at};
 ghost use Rattle.v4_options.specs.OptionValue.{bytes_at, value_of};
 ghost use Rattle.v4_options.specs.OptionViews.{view_instances};
 ghost use Rattle.lease_text.specs.Leases.{values_content};
 ghost use Rattle.v4_client.specs.Granting.{class_len, kept_of, kept_values, mask_taken, net_len, terms_granted, times_of, times_taken, told_times, unless_refused, usual_times};
-ghost use Rattle.v4_client.specs.Messages.{are_there, arrival_of, has_long_value, is_among, is_long, is_there};
+ghost use Rattle.v4_client.specs.Messages.{are_there, arrival_of, is_among, is_there};
 ghost use Rattle.v4_client.specs.Settings.{settings_content};
 
 use crate::answers::Arrival4;
@@ -28,7 +28,7 @@ pub struct Times4 {
 
 /// The bytes of a code's instances, end to end, where they are at most `VALUE_LIMIT`.
 fn joined_at(view: &OptionView, code: u8) -> Option<ArrayVec<u8, VALUE_LIMIT>>
-    ensures long { IfNone result (is_long code (view_instances view.now) ≡ true) }
+    ensures long { IfNone result (VALUE_LIMIT < length (bytes_at code (view_instances view.now))) }
     ensures joined { IfSome result (λ bytes. bytes.items ≡ bytes_at code (view_instances view.now)) }
 {
     let mut bytes = ArrayVec::new();
@@ -40,39 +40,29 @@ fn joined_at(view: &OptionView, code: u8) -> Option<ArrayVec<u8, VALUE_LIMIT>>
     Some(bytes)
 }
 
-/// Whether an option is there: it has an instance, and its value the form of its code. The value of one instance is
-/// judged in place; that of several is joined for it, and only where it is longer than `VALUE_LIMIT` in memory.
-fn is_there(alloc: Global, view: &OptionView, code: u8) -> Result<bool, NoMemory>
-    ensures memory { OnErr result (is_long code (view_instances view.now) ≡ true) }
-    ensures there { IfOk result (λ there. there ≡ is_there (view_instances view.now) code) }
+/// Whether an option is there: it has an instance, and its value the form of its code and at most `VALUE_LIMIT` bytes.
+/// The value of one instance is judged in place, and that of several joined for it.
+fn is_there(view: &OptionView, code: u8) -> bool
+    ensures { result ≡ is_there (view_instances view.now) code }
 {
     let mut pieces = pieces_of(view, code);
     let Some(first) = pieces.next() else {
-        return Ok(false);
+        return false;
     };
     if pieces.next().is_none() {
-        return Ok(is_well_formed(code, first));
+        return first.len() <= VALUE_LIMIT && is_well_formed(code, first);
     }
-    if let Some(bytes) = joined_at(view, code) {
-        return Ok(is_well_formed(code, bytes.as_slice()));
-    }
-    match value(alloc, view, code)? {
-        Some(bytes) => Ok(is_well_formed(code, &bytes)),
-        None => Ok(false),
+    match joined_at(view, code) {
+        Some(bytes) => is_well_formed(code, bytes.as_slice()),
+        None => false,
     }
 }
 
-/// Whether all these options are there. Memory is wanted only for a value that is longer than `VALUE_LIMIT`.
-pub(crate) fn are_there(alloc: Global, view: &OptionView, codes: &[u8]) -> Result<bool, NoMemory>
-    ensures memory { OnErr result (has_long_value (view_instances view.now) codes.now ≡ true) }
-    ensures there { IfOk result (λ there. there ≡ are_there (view_instances view.now) codes.now) }
+/// Whether all these options are there.
+pub(crate) fn are_there(view: &OptionView, codes: &[u8]) -> bool
+    ensures { result ≡ are_there (view_instances view.now) codes.now }
 {
-    for code in codes {
-        if !is_there(alloc, view, *code)? {
-            return Ok(false);
-        }
-    }
-    Ok(true)
+    codes.iter().all(|code| is_there(view, *code))
 }
 
 /// The length of an address by its class (RFC 791, section 3.2).

@@ -10,4 +10,4 @@ pub places-preserved : goal.places-preserved
 places-preserved c =
     due_more c.args.ifaces.now c.places.place c.index-ifaces-place.result c.index-ifaces-place.result c.places.dues c.put.new.self c.places-test.true
     c.places.invariant
-    c.index-ifaces-place.is c.put.ensures
+    c.index-ifaces-place.is c.put.ensures.puts

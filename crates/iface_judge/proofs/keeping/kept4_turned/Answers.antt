@@ -9,5 +9,5 @@ returns c = λ past tells told.
     let site = site_shown c.args.site.now in
     let e = entry_shown c.args.entry.now in
     c.turned.ensures past (c.deref.ensures.value ∙ c.in_ok-messages.ensures (e ∷ past) tells)
-    (c.in_ok-said.ensures (e ∷ past) tells ∙ answer_same site e (seen_in site (e ∷ past)).current)
+    (c.answer-said.ensures (e ∷ past) tells ∙ answer_same site e (seen_in site (e ∷ past)).current)
     told

@@ -18,7 +18,7 @@ returns c =
     let site = c.args.site.now in
     let entry = c.args.entry.now in
     let old = c.self.inside in
-    still_tells site entry past (settings_content old.set) old.watch c.in_ok-seen.seen c.in_ok-watch.watch old.probes c.in_ok-probes.probes
+    still_tells site entry past (settings_content old.set) old.watch c.in_ok-seen.seen c.heard-watch.result old.probes c.in_ok-probes.probes
     (record {
       messages = c.in_ok-messages.messages.items;
       calm = c.is_calm-calm.result;
@@ -31,7 +31,7 @@ returns c =
       sees =
           c.in_ok-seen.ensures.seen
           ∙ (λ i. sees_by entry.moment (c.index-2.ensures i) entry.event (c.deref-3.ensures.value i) (judge_shown old.watch));
-      hears = c.in_ok-watch.ensures.shown;
+      hears = c.heard-watch.ensures.shown;
     })
     c.in_ok-probes.ensures
     (subst (λ (content : JudgeContent). Tells content (site_shown site) past) (sym c.self.view_is) tells)
