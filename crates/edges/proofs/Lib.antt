@@ -5,3 +5,4 @@ pub mod Doing
 pub mod ScriptCalls
 pub mod FolderSteps
 pub mod ListingRows
+pub mod WaitSteps

@@ -13,3 +13,4 @@ pub mod Salts
 pub mod Moments
 pub mod Waiting
 pub mod WireCalls
+pub mod Waits

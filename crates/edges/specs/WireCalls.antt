@@ -1,9 +1,9 @@
 -- The calls of the system on a socket of the loopback address and on the clocks, with their answers, and what the
 -- loopback link wants of them. `old` and `new` are the calls before and after, the last one first.
-use Rattle.std.specs.Prelude.{ℕ, Bool, true, false, ◌≡◌, ◌≤◌, ◌⊎◌, ◌/◌, List, [], ◌∷◌, take, Option, None, Some, Result, Ok, Err}
+use Rattle.std.specs.Prelude.{ℕ, Bool, true, false, ◌==◌, ◌&&◌, ◌≡◌, ◌≤◌, ◌⊎◌, ◌/◌, List, [], ◌∷◌, take, Option, None, Some, Result, Ok, Err}
 use Rattle.std.specs.declared.io.ErrorKind.{ErrorKind}
 use Rattle.std.specs.Net.Addr.{ipv4_bits}
-use Rattle.std.specs.Net.Socket.{v4_ip, socket_port}
+use Rattle.std.specs.Net.Socket.{v4_ip, v4_port}
 use Rattle.std.specs.declared.net.socket_addr.SocketAddr.{SocketAddr}
 use Rattle.std.specs.declared.net.socket_addr.SocketAddr.TheVariants.{V4, V6}
 use Rattle.std.specs.declared.time.Instant.{Instant}
@@ -57,16 +57,15 @@ Binds true port old new result = new ≡ old
 Binds false port old new (Ok x) = Does (Bound port None ∷ []) old new
 Binds false port old new (Err e) = (kind : ErrorKind) × Does (Bound port (Some kind) ∷ []) old new
 
--- an address is 127.0.0.1
-abbrev pub IsLoopback : SocketAddr → Type 0
-IsLoopback (V4 address) = ipv4_bits (v4_ip address) ≡ LOOPBACK
-IsLoopback (V6 address) = ⊥
+-- whether a sender is this port of 127.0.0.1
+abbrev pub is_from : (port : ℕ) → SocketAddr → Bool
+is_from port (V4 address) = (ipv4_bits (v4_ip address) == LOOPBACK) && (v4_port address == port)
+is_from port (V6 address) = false
 
 -- a datagram of the peer came within so many milliseconds
 pub record Hears (millis peer : ℕ) (bytes : List ℕ) (old new : Option (List WireCall)) : Type 0 where
   pub sender : SocketAddr
-  pub here : IsLoopback sender
-  pub port : socket_port sender ≡ peer
+  pub is_peer : is_from peer sender ≡ true
   pub asked : Does (Received (Ok (record { bytes = bytes; sender = sender })) ∷ Limited millis None ∷ []) old new
 
 -- Of what others send nothing is taken. A failure that says that nothing came is none, and any other one is.
@@ -74,7 +73,8 @@ abbrev pub Receives : (millis peer : ℕ) → (buffer : List ℕ) → (old new :
     → Result (Option ℕ) Failed → Type 0
 Receives millis peer buffer old new (Ok (Some len)) = Hears millis peer (take len buffer) old new
 Receives millis peer buffer old new (Ok None) =
-    ((datagram : Datagram) × Does (Received (Ok datagram) ∷ Limited millis None ∷ []) old new)
+    ((datagram : Datagram) × (is_from peer datagram.sender ≡ false)
+    × Does (Received (Ok datagram) ∷ Limited millis None ∷ []) old new)
     ⊎ ((kind : ErrorKind) × (is_over kind ≡ true) × Does (Received (Err kind) ∷ Limited millis None ∷ []) old new)
 Receives millis peer buffer old new (Err e) =
     ((kind : ErrorKind) × Does (Limited millis (Some kind) ∷ []) old new)

@@ -1,9 +1,9 @@
-ghost use Rattle.std.specs.Prelude.{◌≡◌, ◌<◌, ◌≤◌, ◌-◌, ◌^◌, true, false, length, None, IfOk, IfSome, OnErr};
+ghost use Rattle.std.specs.Prelude.{◌≡◌, ◌<◌, ◌≤◌, ◌-◌, ◌^◌, true, false, length, None, Some, if◌then◌else◌, IfOk, IfSome, OnErr};
 ghost use Rattle.edges.specs.Ports.{port_named};
 ghost use Rattle.edges.specs.Waiting.{wait_end, piece_of, glancing, is_over};
 ghost use Rattle.world.specs.Causes.{HasCause, HasDeviceCause};
-ghost use Rattle.edges.specs.WireCalls.{BeginsLife, Binds, IsLoopback, Receives, Sends};
-ghost use Rattle.std.specs.Net.Socket.{socket_port};
+ghost use Rattle.edges.specs.WireCalls.{BeginsLife, Binds, Receives, Sends, is_from};
+ghost use Rattle.edges.specs.Waits.{HearsNone, Brings, BringsYet};
 ghost use Rattle.world.specs.LinkCalls.{frame_len};
 ghost use Rattle.world.specs.Streams.{count_after};
 
@@ -103,7 +103,7 @@ struct Wire<L: Loopback + Drop, W: Watch + Drop> {
 
 /// How long the datagram is that came, where the peer sent it.
 fn from_peer(len: usize, sender: SocketAddr, peer: u16) -> Option<usize>
-    ensures { IfSome result (λ n. (n ≡ len) × IsLoopback sender × (socket_port sender ≡ peer)) }
+    ensures { result ≡ if is_from peer sender then Some len else None }
 {
     match sender {
         SocketAddr::V4(address) => {
@@ -122,6 +122,7 @@ fn nothing_came(kind: ErrorKind) -> Result<Option<usize>, Failed>
     if is_over(kind) { Ok(None) } else { Err(Failed) }
 }
 
+#[tactic(auto, using(crate::proofs::WaitSteps::nothing_heard, crate::proofs::WaitSteps::moment_told, crate::proofs::WaitSteps::both_quiet, crate::proofs::WaitSteps::none_heard, crate::proofs::WaitSteps::one_heard, crate::proofs::WaitSteps::then_brings, crate::proofs::WaitSteps::quiet_or_on))]
 impl<L: Loopback + Drop, W: Watch + Drop> Wire<L, W> {
     /// Binds the socket, where that wasn't done before.
     fn bind(&mut self) -> Result<(), Failed>
@@ -161,6 +162,8 @@ impl<L: Loopback + Drop, W: Watch + Drop> Wire<L, W> {
     fn moment(&mut self) -> Result<u64, Failed>
         ensures peer { self.new.peer ≡ self.old.peer }
         ensures kept { self.new.salts ≡ self.old.salts }
+        ensures quiet { IfOk result
+            (λ _. HearsNone self.old.peer (L.calls self.old.line) (L.calls self.new.line)) }
     {
         match &mut self.moments {
             Some(moments) => moments.now(&mut self.line),
@@ -188,6 +191,9 @@ impl<L: Loopback + Drop, W: Watch + Drop> Wire<L, W> {
     fn heard(&mut self, piece: u64, buf: &mut [u8]) -> Result<Option<Event>, Failed>
         ensures kept { (self.new.peer ≡ self.old.peer) × (self.new.salts ≡ self.old.salts) }
         ensures room { IfOk result (λ heard. IfSome heard (λ event. frame_len event ≤ length buf.new)) }
+        ensures brings { IfOk result
+            (λ heard. BringsYet self.old.peer heard (length buf.old) buf.new (L.calls self.old.line)
+            (L.calls self.new.line)) }
     {
         // one byte more than the longest, so that a longer one is told from it
         let mut datagram = [0; HEAD + FRAME_LIMIT + 1];
@@ -197,24 +203,40 @@ impl<L: Loopback + Drop, W: Watch + Drop> Wire<L, W> {
         }
     }
 
+    /// Whether a wait is over in which nothing came: a child has ended, or its moment has come.
+    fn has_ended(&mut self, end: u64) -> Result<bool, Failed>
+        ensures peer { self.new.peer ≡ self.old.peer }
+        ensures quiet { IfOk result
+            (λ _. HearsNone self.old.peer (L.calls self.old.line) (L.calls self.new.line)) }
+    {
+        if seen_by(self.watch.look()) == Seen::Ended {
+            return Ok(true);
+        }
+        Ok(end <= self.moment()?)
+    }
+
     /// A piece of a wait, and what ends the wait: a datagram, the end of a child, or its moment.
     fn piece(&mut self, end: u64, buf: &mut [u8]) -> Result<Option<Event>, Failed>
         ensures room { IfOk result (λ heard. IfSome heard (λ event. frame_len event ≤ length buf.new)) }
+        ensures peer { IfOk result (λ _. self.new.peer ≡ self.old.peer) }
+        ensures brings { IfOk result
+            (λ heard. BringsYet self.old.peer heard (length buf.old) buf.new (L.calls self.old.line)
+            (L.calls self.new.line)) }
     {
         let left = end.saturating_sub(self.moment()?);
         let piece = glancing(seen_by(self.watch.look()), piece_of(left));
-        if let Some(event) = self.heard(piece, buf)? {
-            return Ok(Some(event));
-        }
-        if seen_by(self.watch.look()) == Seen::Ended || end <= self.moment()? {
-            Ok(Some(Event::Quiet))
-        } else {
-            Ok(None)
+        match self.heard(piece, buf)? {
+            Some(event) => Ok(Some(event)),
+            None => Ok(self.has_ended(end)?.then_some(Event::Quiet)),
         }
     }
 
     fn next_event(&mut self, until: Option<u64>, buf: &mut [u8]) -> Result<Event, Failed>
         ensures room { IfOk result (λ event. frame_len event ≤ length buf.new) }
+        ensures peer { IfOk result (λ _. self.new.peer ≡ self.old.peer) }
+        ensures brings { IfOk result
+            (λ event. Brings self.old.peer (record { event = event; room = length buf.old; buffer = buf.new })
+            (L.calls self.old.line) (L.calls self.new.line)) }
     {
         let end = wait_end(until, self.moment()?);
         'pieces: for _ in 0..u64::MAX {
@@ -227,6 +249,9 @@ impl<L: Loopback + Drop, W: Watch + Drop> Wire<L, W> {
 
     fn wait(&mut self, until: Option<u64>, buf: &mut [u8]) -> Result<Wake, Failed>
         ensures room { IfOk result (λ wake. frame_len wake.event ≤ length buf.new) }
+        ensures brings { IfOk result
+            (λ wake. Brings self.old.peer (record { event = wake.event; room = length buf.old; buffer = buf.new })
+            (L.calls self.old.line) (L.calls self.new.line)) }
     {
         let event = self.next_event(until, buf)?;
         let at = self.moment()?;
@@ -344,7 +369,15 @@ impl<L: Loopback + Drop, W: Watch + Drop> Link for LoopLink<L, W> {
         }
     }
 
-    fn wait(&mut self, until: Option<u64>, buf: &mut [u8]) -> Result<Wake, DeviceAnswer> {
+    fn wait(&mut self, until: Option<u64>, buf: &mut [u8]) -> Result<Wake, DeviceAnswer>
+        ensures cause { HasDeviceCause self.old.faults.count self.new.faults.count result }
+        ensures no_send { self.new.send_faults ≡ self.old.send_faults }
+        ensures no_begin { self.new.begins ≡ self.old.begins }
+        ensures room { IfOk result (λ wake. frame_len wake.event ≤ length buf.new) }
+        ensures brings { IfOk result
+            (λ wake. Brings self.old.wire.peer (record { event = wake.event; room = length buf.old; buffer = buf.new })
+            (L.calls self.old.wire.line) (L.calls self.new.wire.line)) }
+    {
         match self.wire.wait(until, buf) {
             Ok(wake) => Ok(wake),
             Err(Failed) => Err(self.faults.counted(DeviceAnswer::Failed)),

@@ -1,0 +1,6 @@
+use Rattle.edges.proofs.WaitSteps.{brings_then}
+use Rattle.edges.proofs.links.Wire.wait.Goals as goal
+
+pub returns-clause-brings : goal.returns-clause-brings
+returns-clause-brings g c =
+    brings_then _ _ _ _ _ _ _ _ c.in_ok-event.ensures.peer c.in_ok-event.ensures.brings c.in_ok-at.ensures.quiet
