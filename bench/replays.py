@@ -1,15 +1,16 @@
 #!/usr/bin/env python3
 """Times the program on long scripts, and on long configurations.
 
-    bench/replays.py [--program PATH] [--kinds quiet carrier local lease renew renew6 busy check] [--sizes 4 16]
-                     [--renewals 100 200] [--ifaces 64]
+    bench/replays.py [--program PATH] [--kinds quiet carrier local lease renew renew6 lives saves busy check]
+                     [--sizes 4 16] [--renewals 100 200] [--lives 10000 40000] [--ifaces 64] [--runs 1]
 
-For each kind of script and each size in MiB (of `renew` and `renew6`, each number of renewals): the time, the time over that of the
-size before, the time of sha256sum of the same script, and the peak memory, also over the size of the script. Beside
-`lease`, `renew` and `renew6`, which are of so many interfaces, stands the time in which tcpdump prints the servers' frames, the
-DHCP frames of both ways, and those of ARP too, where there is a tcpdump. `busy` has the time of one turn on an interface among 64, and alone. `check`
-is a configuration: blocks of 64 interfaces, again and again, with comments, values, lists within their limits and blocks that
-are skipped. `rt run` in crates/dhcpcd_prog builds the program.
+For each kind of script and each size in MiB (of `renew` and `renew6` each number of renewals, of `lives` that of lives that crash, of
+`saves` a tenth of it, of lives that save and remove a file before they crash): the processor
+seconds, those over the ones of the size before, those of sha256sum of the same script, those over these, and the peak memory, also over the
+size of the script. Beside `lease`, `renew` and `renew6`, which are of so many interfaces, stands the time in which tcpdump prints the
+servers' frames, the DHCP frames of both ways, and those of ARP too, where there is a tcpdump. `busy` has the time of one turn on an
+interface among 64, and alone. `check` is a configuration: blocks of 64 interfaces, again and again, with comments, values, lists within
+their limits and blocks that are skipped. Times are the least of the runs by turns. `rt run` in crates/dhcpcd_prog builds the program.
 """
 
 import argparse
@@ -20,7 +21,6 @@ import struct
 import subprocess
 import sys
 import tempfile
-import time
 
 TOP = os.path.dirname(os.path.dirname(os.path.abspath(__file__)))
 sys.path.insert(0, os.path.join(TOP, "tests"))
@@ -67,6 +67,11 @@ def unprobed_lines(ifaces):
 def asking6_lines(ifaces):
     """Each interface asks for an address of DHCPv6 at once."""
     return ["c:nodhcp", "c:noipv4ll", "c:nodelay", "c:ia_na"]
+
+
+def named_lines(ifaces):
+    """Each interface has a static address and a server of names, which the resolver's file tells while it has carrier."""
+    return static_lines(ifaces) + ["c:static domain_name_servers=10.0.1.1"]
 
 
 def mac(iface):
@@ -219,6 +224,16 @@ def busy_turns(turns, ifaces):
         yield turns.quiet(10_000)
 
 
+def lived_turns(lives):
+    """So many lives, in which the interface loses its carrier. All but the last crash."""
+    at = START
+    for life in range(lives):
+        if life > 0:
+            yield f"crash - old\nstart {at} 0 up 1\n"
+        yield f"turn {at + 1000} 0 carrier 1 down\n"
+        at += 10_000
+
+
 def conf_lines_of_blocks():
     """Lines of a configuration without end: lists once, and then values, comments and skipped blocks."""
     for i in range(IFACES):
@@ -255,7 +270,9 @@ SIZED = {
 }
 # Those that are made of a number of renewals.
 RENEWED = {"renew": (leased_lines, renewed_turns), "renew6": (asking6_lines, renewed6_turns)}
-KINDS = [*SIZED, *RENEWED, "busy", "check"]
+# Those that are made of a number of lives, each with what part of it.
+LIVED = {"lives": (static_lines, 1), "saves": (named_lines, 10)}
+KINDS = [*SIZED, *RENEWED, *LIVED, "busy", "check"]
 
 
 def write_lines(path, lines):
@@ -274,19 +291,6 @@ def write_pcap(path, packets):
     return count
 
 
-def timed(words, path):
-    """Runs a program on a file: its seconds and its peak memory in bytes."""
-    with open(path, "rb") as script:
-        begin = time.monotonic()
-        child = subprocess.Popen(words, stdin=script, stdout=subprocess.DEVNULL)
-        _, status, usage = os.wait4(child.pid, 0)
-        seconds = time.monotonic() - begin
-    child.returncode = os.waitstatus_to_exitcode(status)
-    if child.returncode != 0:
-        sys.exit(f"{words[0]}: status {child.returncode}")
-    return seconds, usage.ru_maxrss * 1024
-
-
 def used(words, path):
     """The processor seconds of a program that reads a file, and its peak memory in bytes."""
     with open(path, "rb") as given:
@@ -298,36 +302,53 @@ def used(words, path):
     return usage.ru_utime + usage.ru_stime, usage.ru_maxrss * 1024
 
 
-def run_one(program, path, kind, size, before, word="replay"):
-    """Runs the program on a script or a configuration, prints its row, and gives its seconds."""
-    seconds, peak = timed([program, word], path)
-    sum_seconds, _ = timed(["sha256sum"], path)
+def least(jobs, runs):
+    """The least processor seconds of each of these programs with the file that it reads, by turns, and its most memory."""
+    rounds = [[used(words, path) for words, path in jobs] for _ in range(runs)]
+    return [(min(seconds for seconds, _ in its), max(peak for _, peak in its)) for its in zip(*rounds)]
+
+
+def run_one(program, path, kind, size, before, runs, word="replay", captures=()):
+    """Runs the program on a script or a configuration by turns with sha256sum, and with tcpdump on captures, prints its row, and gives
+    its seconds."""
+    jobs = [([program, word], path), (["sha256sum"], path)]
+    jobs += [(["tcpdump", "-n", "-v", "-r", "-"], capture) for _, _, capture in captures]
+    (seconds, peak), (summing, _), *printing = least(jobs, runs)
     ratio = f"{seconds / before:5.1f}" if before else "    -"
     print(
-        f"{kind:8} {size:4}  {seconds:8.2f}  {ratio}  {sum_seconds:9.2f}"
+        f"{kind:8} {size:5}  {seconds:8.3f}  {ratio}  {summing:9.3f}  {seconds / summing:5.1f}"
         f"  {peak / MIB:8.0f}  {peak / os.path.getsize(path):10.1f}",
         flush=True,
     )
+    for (what, count, _), (its, _) in zip(captures, printing):
+        print(f"         {count} frames {what}: tcpdump -n -v {its:.3f} s, the replay {seconds / its:.2f} times as long", flush=True)
     return seconds
 
 
-def run_sized(program, room, kind, sizes, chosen):
+def run_sized(program, room, kind, sizes, chosen, runs):
     conf_lines, needed, lines = SIZED[kind]
     ifaces = needed or chosen
     path, before = os.path.join(room, "script"), None
     for size in sizes:
         turns = Turns()
         write_lines(path, script_of(conf_lines, ifaces, lines(turns, ifaces), size * MIB))
-        before = run_one(program, path, kind, size, before)
-        if turns.frames:
-            run_tcpdumps(program, room, turns.frames, path, before)
+        captures = captures_of(program, room, turns.frames, path)
+        before = run_one(program, path, kind, size, before, runs, captures=captures)
 
 
-def run_checks(program, room, sizes):
+def run_checks(program, room, sizes, runs):
     path, before = os.path.join(room, "configuration"), None
     for size in sizes:
         write_lines(path, sized("", conf_lines_of_blocks(), size * MIB))
-        before = run_one(program, path, "check", size, before, "check")
+        before = run_one(program, path, "check", size, before, runs, "check")
+
+
+def run_lives(program, room, kind, numbers, runs):
+    conf_lines, part = LIVED[kind]
+    path, before = os.path.join(room, "script"), None
+    for lives in numbers:
+        write_lines(path, script_of(conf_lines, 1, lived_turns(lives // part)))
+        before = run_one(program, path, kind, lives // part, before, runs)
 
 
 def link_frames(program, path):
@@ -344,45 +365,38 @@ def link_frames(program, path):
             sys.exit(f"{program}: status {child.returncode}")
 
 
-def run_tcpdump(room, packets, what, seconds):
-    """The time in which tcpdump reads and prints the frames, and how many times as long the replay took."""
-    path = os.path.join(room, "capture")
-    count = write_pcap(path, packets)
-    printing, _ = timed(["tcpdump", "-n", "-v", "-r", "-"], path)
-    print(f"         {count} frames {what}: tcpdump -n -v {printing:.2f} s, the replay {seconds / printing:.1f} times as long", flush=True)
-
-
-def run_tcpdumps(program, room, heard, script, seconds):
-    """tcpdump on the servers' frames alone, on all DHCP frames of the same replay, and on those of ARP too."""
-    if shutil.which("tcpdump") is None:
-        print(f"         {len(heard)} frames; there is no tcpdump", flush=True)
-        return
-    run_tcpdump(room, heard, "heard", seconds)
+def captures_of(program, room, heard, script):
+    """The servers' frames as a capture, all DHCP frames of the same replay, and those of ARP too: what each has, how many, and its file."""
+    if not heard or shutil.which("tcpdump") is None:
+        return []
     packets = list(link_frames(program, script))
     dhcp = [packet for packet in packets if packet[12:14] != ARP]
-    run_tcpdump(room, dhcp, "heard and sent", seconds)
+    kinds = [("heard", heard), ("heard and sent", dhcp)]
     if len(dhcp) < len(packets):
-        run_tcpdump(room, packets, "heard and sent, those of ARP among them", seconds)
+        kinds.append(("heard and sent, those of ARP among them", packets))
+    paths = [os.path.join(room, f"capture-{number}") for number in range(len(kinds))]
+    return [(what, write_pcap(path, its), path) for (what, its), path in zip(kinds, paths)]
 
 
-def run_renewals(program, room, kind, numbers, ifaces):
+def run_renewals(program, room, kind, numbers, ifaces, runs):
     conf_lines, lines = RENEWED[kind]
     path, before = os.path.join(room, "script"), None
     for times in numbers:
         turns = Turns()
         write_lines(path, script_of(conf_lines, ifaces, lines(turns, ifaces, times)))
-        before = run_one(program, path, kind, times, before)
-        run_tcpdumps(program, room, turns.frames, path, before)
+        before = run_one(program, path, kind, times, before, runs, captures=captures_of(program, room, turns.frames, path))
 
 
-def run_busy(program, room):
+def run_busy(program, room, runs):
     """The time of a turn on an interface among others that rest, and alone."""
-    path = os.path.join(room, "script")
+    jobs, counts = [], []
     for ifaces in (1, IFACES):
-        turns = Turns()
+        turns, path = Turns(), os.path.join(room, f"script-{ifaces}")
         write_lines(path, script_of(unprobed_lines, ifaces, busy_turns(turns, ifaces)))
-        seconds, _ = timed([program, "replay"], path)
-        print(f"busy     1 of {ifaces:2}: {seconds / turns.count * 1e6:6.1f} microseconds a turn", flush=True)
+        jobs.append(([program, "replay"], path))
+        counts.append(turns.count)
+    alone, among = (seconds / count * 1e6 for (seconds, _), count in zip(least(jobs, runs), counts))
+    print(f"busy     {alone:.2f} microseconds a turn alone, {among:.2f} of {IFACES}: {among / alone:.2f} times as long", flush=True)
 
 
 def main():
@@ -393,21 +407,25 @@ def main():
     parser.add_argument("--kinds", nargs="+", choices=KINDS, default=KINDS)
     parser.add_argument("--sizes", nargs="+", type=int, default=[4, 16], metavar="MIB")
     parser.add_argument("--renewals", nargs="+", type=int, default=[100, 200], metavar="TIMES")
+    parser.add_argument("--lives", nargs="+", type=int, default=[10_000, 40_000], metavar="COUNT")
+    parser.add_argument("--runs", type=int, default=1, metavar="COUNT")
     parser.add_argument("--ifaces", type=int, choices=range(1, IFACES + 1), default=IFACES, metavar="COUNT")
     options = parser.parse_args()
     if not os.access(options.program, os.X_OK):
         sys.exit(f"{options.program} isn't built: cd crates/dhcpcd_prog && rt run -- replay < stdin")
-    print("kind     size   seconds  ratio  sha256sum  peak MiB  peak/input", flush=True)
+    print("kind      size   seconds  ratio  sha256sum  ratio  peak MiB  peak/input", flush=True)
     with tempfile.TemporaryDirectory() as room:
         for kind in options.kinds:
             if kind in RENEWED:
-                run_renewals(options.program, room, kind, options.renewals, options.ifaces)
+                run_renewals(options.program, room, kind, options.renewals, options.ifaces, options.runs)
+            elif kind in LIVED:
+                run_lives(options.program, room, kind, options.lives, options.runs)
             elif kind == "busy":
-                run_busy(options.program, room)
+                run_busy(options.program, room, options.runs)
             elif kind == "check":
-                run_checks(options.program, room, options.sizes)
+                run_checks(options.program, room, options.sizes, options.runs)
             else:
-                run_sized(options.program, room, kind, options.sizes, options.ifaces)
+                run_sized(options.program, room, kind, options.sizes, options.ifaces, options.runs)
 
 
 if __name__ == "__main__":
