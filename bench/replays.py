@@ -5,12 +5,12 @@
                      [--sizes 4 16] [--renewals 100 200] [--lives 10000 40000] [--ifaces 64] [--runs 1]
 
 For each kind of script and each size in MiB (of `renew` and `renew6` each number of renewals, of `lives` that of lives that crash, of
-`saves` a tenth of it, of lives that save and remove a file before they crash): the processor
-seconds, those over the ones of the size before, those of sha256sum of the same script, those over these, and the peak memory, also over the
-size of the script. Beside `lease`, `renew` and `renew6`, which are of so many interfaces, stands the time in which tcpdump prints the
-servers' frames, the DHCP frames of both ways, and those of ARP too, where there is a tcpdump. `busy` has the time of one turn on an
-interface among 64, and alone. `check` is a configuration: blocks of 64 interfaces, again and again, with comments, values, lists within
-their limits and blocks that are skipped. Times are the least of the runs by turns. `rt run` in crates/dhcpcd_prog builds the program.
+`saves` a tenth of it, of lives that save and remove a file before they crash): the processor seconds, those over the ones of the size
+before, those of sha256sum of the same script, the first over these, and the peak memory, also over the size of the script. Beside `lease`,
+`renew` and `renew6`, which are of so many interfaces, stands the time in which tcpdump prints the servers' frames, the DHCP frames of both
+ways, and those of ARP too, where there is a tcpdump. `busy` has the time of one turn on an interface among 64, and alone. `check` is a
+configuration: blocks of 64 interfaces, again and again, with comments, values, lists within their limits and blocks that are skipped.
+Times are the least of the runs by turns. `rt run` in crates/dhcpcd_prog builds the program.
 """
 
 import argparse
