@@ -1,0 +1,65 @@
+//! Answers vectors of the lowest layer, and of the crates that read and write frames and messages.
+#![tactic(auto)]
+
+mod addresses;
+mod asking;
+mod frames;
+mod lists;
+mod messages4;
+mod messages6;
+mod options4;
+mod options6;
+
+use net_types::NoMemory;
+use std::alloc::Global;
+use std::io;
+use vector_lines::{Answers, answer_all};
+
+#[derive(Drop)]
+struct CodecVectors;
+
+impl Answers for CodecVectors {
+    fn answer(
+        &mut self,
+        alloc: Global,
+        word: &str,
+        arguments: &[Vec<u8>],
+    ) -> Result<Option<String>, NoMemory> {
+        match word {
+            "mac" | "name" | "ip4" | "net4" | "within" | "ip6" | "net6" | "printed-net6" => {
+                addresses::answer(alloc, word, arguments)
+            }
+            "u64"
+            | "below"
+            | "byte"
+            | "hex"
+            | "names"
+            | "addresses"
+            | "strip"
+            | "sum"
+            | "text"
+            | "is-name"
+            | "search" => lists::answer(alloc, word, arguments),
+            "eth"
+            | "arp"
+            | "arp-request"
+            | "link-local"
+            | "udp4"
+            | "udp6"
+            | "udp4-frame"
+            | "udp6-frame" => frames::answer(alloc, word, arguments),
+            "areas" | "option" | "numbers" | "routes" => options4::answer(alloc, word, arguments),
+            "read4" | "write4" | "frame4" | "ours" | "heard4" | "server" => {
+                messages4::answer(alloc, word, arguments)
+            }
+            "duid" | "servers6" | "search6" | "nested" => {
+                options6::answer(alloc, word, arguments)
+            }
+            _ => messages6::answer(alloc, word, arguments),
+        }
+    }
+}
+
+fn main(rt: HostRuntime) -> io::Result<()> {
+    answer_all(&rt, &mut CodecVectors)
+}
