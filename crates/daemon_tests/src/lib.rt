@@ -8,8 +8,6 @@ mod dhcpcd_cases;
 #[cfg(test)]
 mod dhcpcd_prog_cases;
 #[cfg(test)]
-mod hook_env_cases;
-#[cfg(test)]
 mod host_tables_cases;
 #[cfg(test)]
 mod iface_core_cases;
@@ -17,5 +15,3 @@ mod iface_core_cases;
 mod interfaces;
 #[cfg(test)]
 mod lease_file_cases;
-#[cfg(test)]
-mod resolver_text_cases;
