@@ -1,2 +1,3 @@
 pub mod LoopLaws
 mod TestLaws
+mod SeatLaws

@@ -1,2 +1,3 @@
+pub mod Concern
 pub mod Tests
 pub mod Seats

@@ -1,5 +1,5 @@
 //! What judges the addresses of one interface.
-ghost use Rattle.std.specs.Prelude.{◌≡◌, ◌<◌, ◌^◌, ℕ, Bool, List, [], ◌∷◌, IfOk};
+ghost use Rattle.std.specs.Prelude.{◌≡◌, ◌<◌, ◌^◌, ℕ, Bool, true, List, [], ◌∷◌, IfOk};
 ghost use Rattle.net_types.specs.declared.address.Net.{Net};
 ghost use Rattle.evidence_words.specs.Entries as told;
 ghost use Rattle.evidence_words.specs.IfaceLives.{now_in};
@@ -34,6 +34,15 @@ pub trait Judge: Sized {
             (λ next. (past : List told.Entry)
             → Tells self (site_shown site.now) past
             → Tells next (site_shown site.now) (entry_shown entry.now ∷ past)) };
+
+    /// Whether it stays as it is in a turn more, and so need not be shown that one.
+    fn stays(&self, site: &Site, entry: &Entry) -> bool
+        requires site { FitsSite site.now }
+        requires moment { entry.now.moment < 10 ^ 15 }
+        ensures { result ≡ true
+            → (past : List told.Entry)
+            → Tells self.now (site_shown site.now) past
+            → Tells self.now (site_shown site.now) (entry_shown entry.now ∷ past) };
 
     /// Whether an address on the interface rests on the turns, at the moment of the last one.
     fn owns(&self, site: &Site, net: Net, moment: u64) -> bool

@@ -1,29 +1,104 @@
 //! The rows that are shown, judged.
-ghost use Rattle.std.specs.Prelude.{◌≡◌, ◌∷◌, map, not, List};
-ghost use Rattle.std.specs.List.{find};
+ghost use Rattle.std.specs.Prelude.{◌≡◌, ◌<◌, ◌∷◌, true, length, map, not, IfSome, List};
+ghost use Rattle.std.specs.List.{find, list_any};
 ghost use Rattle.evidence_words.specs.Entries as told;
 ghost use Rattle.evidence_words.specs.IfaceLives.{now_in};
 ghost use Rattle.audit_seats.specs.Seats.{AllTell, sites_of};
 ghost use Rattle.audit_model.specs.Auditing.{Living, lacking, site_in};
 ghost use Rattle.audit_turns.specs.Goings.{going_in, going_of};
-ghost use Rattle.audit_seats.specs.Tests.{judged_by, row_rests};
+ghost use Rattle.audit_seats.specs.Tests.{judged_by, rests_at, row_rests};
 
 use crate::judge::Judge;
 use crate::seats::{Watched, some_rests};
 use audit_turns::Going;
+use net_types::Net;
 use std::collections::BTreeSet;
 use world::HostRow;
 
-/// Whether a row rests on the turns. A route needs nothing.
-fn rests<J: Judge + Drop>(watched: &[Watched<J>], row: HostRow, moment: u64) -> bool
+/// Whether the interface of a number stands at a place.
+fn is_at<J: Judge + Drop>(watched: &[Watched<J>], place: usize, index: u32) -> bool
+    ensures { result ≡ true → place < length watched.now }
+{
+    match watched.get(place) {
+        Some(one) => one.is_of(index),
+        None => false,
+    }
+}
+
+/// Where the interface of a number stands: first it is looked for where the last one stood, and behind that.
+fn place_of<J: Judge + Drop>(watched: &[Watched<J>], last: usize, index: u32) -> Option<usize>
+    ensures { IfSome result (λ place. place < length watched.now) }
+{
+    if is_at(watched, last, index) {
+        return Some(last);
+    }
+    let next = last.saturating_add(1);
+    if is_at(watched, next, index) {
+        return Some(next);
+    }
+    watched.iter().position(|one| one.is_of(index))
+}
+
+/// Whether an address on the interface of a number rests on the turns at the one that stands at a place.
+fn rests_there<J: Judge + Drop>(
+    watched: &[Watched<J>],
+    place: usize,
+    index: u32,
+    net: Net,
+    moment: u64,
+) -> bool
     ensures { (past : List told.Entry)
         → moment ≡ now_in past
         → AllTell J.Tells past watched.now
-        → result ≡ row_rests J.is_own J.is_shared (sites_of watched.now) past row }
+        → result ≡ true
+        → list_any (rests_at J.is_own J.is_shared index net past) (sites_of watched.now) ≡ true }
+{
+    match watched.get(place) {
+        Some(one) => one.rests(index, net, moment),
+        None => false,
+    }
+}
+
+/// Whether an address on the interface of a number rests on the turns: the one at a place is asked before the others.
+fn rests_somewhere<J: Judge + Drop>(
+    watched: &[Watched<J>],
+    place: usize,
+    index: u32,
+    net: Net,
+    moment: u64,
+) -> bool
+    ensures { (past : List told.Entry)
+        → moment ≡ now_in past
+        → AllTell J.Tells past watched.now
+        → result ≡ list_any (rests_at J.is_own J.is_shared index net past) (sites_of watched.now) }
+{
+    if rests_there(watched, place, index, net, moment) {
+        return true;
+    }
+    some_rests(watched, index, net, moment)
+}
+
+/// Whether a row rests on the turns, and where its interface stands, if that is one of these. A route needs nothing.
+fn rests<J: Judge + Drop>(
+    watched: &[Watched<J>],
+    last: usize,
+    row: HostRow,
+    moment: u64,
+) -> (bool, usize)
+    ensures { (past : List told.Entry)
+        → moment ≡ now_in past
+        → AllTell J.Tells past watched.now
+        → result.0 ≡ row_rests J.is_own J.is_shared (sites_of watched.now) past row }
 {
     match row {
-        HostRow::Addr { iface, net } => some_rests(watched, iface.number, net, moment),
-        HostRow::Route { .. } => true,
+        HostRow::Addr { iface, net } => {
+            let place = place_of(watched, last, iface.number).unwrap_or(last);
+            (
+                rests_somewhere(watched, place, iface.number, net, moment),
+                place,
+            )
+        }
+        HostRow::Route { .. } => (true, last),
     }
 }
 
@@ -39,10 +114,13 @@ fn first_unjust<J: Judge + Drop>(
         → result
         ≡ find (λ row. not (row_rests J.is_own J.is_shared (sites_of watched.now) past row)) rows.now.keys }
 {
+    let mut last = 0;
     for row in rows {
-        if !rests(watched, *row, moment) {
+        let (has_basis, place) = rests(watched, last, *row, moment);
+        if !has_basis {
             return Some(*row);
         }
+        last = place;
     }
     None
 }

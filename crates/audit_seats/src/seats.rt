@@ -1,10 +1,11 @@
 //! The interfaces that are judged, each with its judge.
-ghost use Rattle.std.specs.Prelude.{◌≡◌, ◌<◌, ◌^◌, [], ◌∷◌, List, map, IfOk};
+ghost use Rattle.std.specs.Prelude.{◌≡◌, ◌==◌, ◌<◌, ◌^◌, true, [], ◌∷◌, List, length, map, IfOk, OnOk};
 ghost use Rattle.std.specs.List.{list_any};
 ghost use Rattle.evidence_words.specs.Entries as told;
 ghost use Rattle.evidence_words.specs.IfaceLives.{now_in};
+ghost use Rattle.evidence_words.specs.Inputs.{index_at};
 ghost use Rattle.audit_words.specs.Shown.{entry_shown, site_shown};
-ghost use Rattle.audit_seats.specs.Seats.{AllTell, sites_of};
+ghost use Rattle.audit_seats.specs.Seats.{AllTell, IsTurnedAt, sites_of};
 ghost use Rattle.audit_seats.specs.Tests.{rests_at};
 
 use crate::judge::Judge;
@@ -44,15 +45,33 @@ impl<J: Judge + Drop> Watched<J> {
         Ok(Watched { seat, judge })
     }
 
+    /// Whether its judge stays as it is in a turn more.
+    fn stays(&self, entry: &Entry) -> bool
+        requires { entry.now.moment < 10 ^ 15 }
+        ensures { result ≡ true
+            → (past : List told.Entry)
+            → J.Tells self.now.judge (site_shown self.now.seat) past
+            → J.Tells self.now.judge (site_shown self.now.seat) (entry_shown entry.now ∷ past) }
+    {
+        self.judge.stays(self.seat.site(), entry)
+    }
+
+    /// Whether it is the interface of this number.
+    pub fn is_of(&self, index: u32) -> bool
+        ensures { result ≡ (index_at (site_shown self.now.seat) == index) }
+    {
+        self.seat.site().index() == index
+    }
+
     /// Whether an address on the interface of this number rests on the turns here.
-    fn rests(&self, index: u32, net: Net, moment: u64) -> bool
+    pub fn rests(&self, index: u32, net: Net, moment: u64) -> bool
         ensures { (past : List told.Entry)
             → moment ≡ now_in past
             → J.Tells self.now.judge (site_shown self.now.seat) past
             → result ≡ rests_at J.is_own J.is_shared index net past (site_shown self.now.seat) }
     {
         let site = self.seat.site();
-        (site.index() == index && self.judge.owns(site, net, moment))
+        (self.is_of(index) && self.judge.owns(site, net, moment))
             || self.judge.shares(site, index, net, moment)
     }
 }
@@ -73,6 +92,42 @@ pub fn all_first<J: Judge + Drop>(
     Ok(all)
 }
 
+/// Shows the one at a place a turn more. It is taken out for that, and the last one stands there meanwhile.
+fn change_at<J: Judge + Drop>(
+    watched: &mut Vec<Watched<J>>,
+    place: usize,
+    alloc: Global,
+    entry: &Entry,
+) -> Result<(), NoMemory>
+    requires place { place < length watched.old.items }
+    requires moment { entry.now.moment < 10 ^ 15 }
+    ensures { OnOk result (IsTurnedAt J.Tells (entry_shown entry.now) place watched.old.items watched.new.items) }
+{
+    let one = watched.swap_remove(place);
+    let next = one.turned(alloc, entry)?;
+    watched.push(next)?;
+    let last = watched.len() - 1;
+    watched.swap(place, last);
+    Ok(())
+}
+
+/// Turns the one at a place on. Where its judge stays as it is nothing is done.
+fn turn_at<J: Judge + Drop>(
+    watched: &mut Vec<Watched<J>>,
+    place: usize,
+    alloc: Global,
+    entry: &Entry,
+) -> Result<(), NoMemory>
+    requires place { place < length watched.old.items }
+    requires moment { entry.now.moment < 10 ^ 15 }
+    ensures { OnOk result (IsTurnedAt J.Tells (entry_shown entry.now) place watched.old.items watched.new.items) }
+{
+    if watched[place].stays(entry) {
+        return Ok(());
+    }
+    change_at(watched, place, alloc, entry)
+}
+
 /// All of them after a turn more.
 pub fn all_turned<J: Judge + Drop>(
     alloc: Global,
@@ -86,10 +141,9 @@ pub fn all_turned<J: Judge + Drop>(
         → AllTell J.Tells past watched.items
         → AllTell J.Tells (entry_shown entry.now ∷ past) all.items) }
 {
-    let mut all = Vec::new(alloc);
-    for one in watched {
-        let next = one.turned(alloc, entry)?;
-        all.push(next)?;
+    let mut all = watched;
+    for place in 0..all.len() {
+        turn_at(&mut all, place, alloc, entry)?;
     }
     Ok(all)
 }

@@ -3,3 +3,7 @@ pub mod SharesTold
 pub mod Among
 mod KeptTurns
 mod ShareLoops
+mod IdleTurns
+mod IdleJudges
+mod AlikeTurns
+mod Staying

@@ -1,12 +1,21 @@
 -- What the judges of an interface hold together after some turns.
-use Rattle.std.specs.Prelude.{List, map, Option, IfSome, option_map}
+use Rattle.std.specs.Prelude.{◌≡◌, ℕ, true, List, map, Option, IfSome, option_map}
+use Rattle.net_types.specs.AddressText.{FitsIp4}
+use Rattle.net_types.specs.declared.address.Ip4.{Ip4}
 use Rattle.audit_words.specs.Shown.{offer_shown}
 use Rattle.audit_words.specs.declared.shown.Offer.{Offer}
 use Rattle.evidence_words.specs.Entries.{Entry, offers_on}
-use Rattle.evidence_words.specs.Inputs.{Site, index_at}
+use Rattle.evidence_words.specs.Inputs.{Site, has_carrier, index_at}
+use Rattle.probe_table.specs.ProbeTimes.{times_in}
 use Rattle.static_judge.specs.Judge as of_statics
+use Rattle.local_judge.specs.Choices.{choice_in, is_calm}
 use Rattle.local_judge.specs.Judge as of_local
+use Rattle.local_judge.specs.Settled as local_turns
+use Rattle.local_judge.specs.declared.choices.Choice.{Choice}
+use Rattle.local_judge.specs.declared.judge.LocalJudge.{LocalJudge}
+use Rattle.lease_judge.specs.ProbedTurns as lease_turns
 use Rattle.lease_judge.specs.Turns as of_lease
+use Rattle.lease_judge.specs.Turns.{JudgeContent}
 use Rattle.lease6_evidence.specs.Exchanges6.{message6_of}
 use Rattle.item_judge.specs.Judging as of_items
 use Rattle.kept_judge.specs.Asking4.{Tells4}
@@ -24,11 +33,37 @@ spoken_by site offers =
 abbrev pub TellsKept6 : Kept6 → Site → List Entry → Type 0
 TellsKept6 kept site past = IfSome site.kept6 (λ lease. Tells6 kept site past)
 
+-- when another host used the address of a choice last, if that stands
+abbrev pub use_of : Option Choice → Option (Option ℕ)
+use_of choice = option_map (λ c. c.used) choice
+
+-- After other turns the same link-local addresses stand, and another host used them last at the same moments. Since
+-- which turn each stands may differ: a turn in which nothing comes changes no more of a choice.
+pub record AreAlike (site : Site) (one other : List Entry) : Type 0 where
+  pub up : has_carrier site one ≡ has_carrier site other
+  pub times : (addr : Ip4) → times_in (is_calm site) site addr one ≡ times_in (is_calm site) site addr other
+  pub uses : (addr : Ip4) → FitsIp4 addr → use_of (choice_in site addr one) ≡ use_of (choice_in site addr other)
+
+-- what is kept to tell link-local addresses is that of turns that are alike for them
+pub record TellsLocal (judge : LocalJudge) (site : Site) (past : List Entry) : Type 0 where
+  pub seen : List Entry
+  pub tells : of_local.Tells judge site seen
+  pub alike : AreAlike site seen past
+
+-- A turn in which nothing comes and nothing is offered changes neither which link-local addresses stand nor which
+-- addresses are probed ones.
+pub record AreSettled (local : LocalJudge) (lease : JudgeContent) : Type 0 where
+  pub local_settled : (site : Site) (past : List Entry) → of_local.Tells local site past
+      → local_turns.IsSettled site past
+  pub lease_settled : (site : Site) (past : List Entry) → of_lease.Tells lease site past
+      → lease_turns.IsSettled site past
+
 -- Each of them holds what it is to hold after these turns.
 pub record Tells (judge : IfaceJudge) (site : Site) (past : List Entry) : Type 0 where
   pub statics : of_statics.Tells judge.statics site past
-  pub local : of_local.Tells judge.local site past
+  pub local : TellsLocal judge.local site past
   pub lease : of_lease.Tells judge.lease site past
   pub items : of_items.Tells judge.items site past
   pub kept4 : Tells4 judge.kept4 site past
   pub kept6 : TellsKept6 judge.kept6 site past
+  pub settled : judge.settled ≡ true → AreSettled judge.local judge.lease

@@ -1,15 +1,15 @@
 //! The judges of an interface, joined: each is shown every turn, and what one of them tells rests on what was shown.
 
-ghost use Rattle.std.specs.Prelude.{◌≡◌, List};
+ghost use Rattle.std.specs.Prelude.{◌≡◌, true, List, IfOk};
 ghost use Rattle.evidence_words.specs.Entries as told;
 ghost use Rattle.evidence_words.specs.IfaceLives.{now_in};
 ghost use Rattle.audit_words.specs.Shown.{FitsSite, site_shown};
 ghost use Rattle.iface_judge.specs.Joined.{has_lease, is_granted, is_kept, is_own, is_shared, stands};
-ghost use Rattle.iface_judge.specs.Telling.{Tells};
+ghost use Rattle.iface_judge.specs.Telling.{AreSettled, Tells};
 
 use crate::keeping::{kept_gives, kept_shares_out, kept4_turned, kept6_turned};
 use crate::sharing::is_heard_share;
-use audit_seats::Judge;
+use audit_seats::{Judge, concerns};
 use audit_words::{Entry, Site};
 use item_judge::ItemJudge;
 use kept_judge::{Kept4, Kept6};
@@ -20,7 +20,8 @@ use static_judge::StaticJudge;
 use std::alloc::Global;
 
 /// What is kept of an interface, turn by turn, to tell which addresses rest on what it showed: as static ones, as
-/// link-local ones, for the leases that servers gave, and for those of an earlier life.
+/// link-local ones, for the leases that servers gave, and for those of an earlier life. Where it is settled, a turn in
+/// which nothing comes and nothing is offered changes nothing that is told.
 #[derive(Drop)]
 pub struct IfaceJudge {
     statics: StaticJudge,
@@ -29,6 +30,18 @@ pub struct IfaceJudge {
     items: ItemJudge,
     kept4: Kept4,
     kept6: Kept6,
+    settled: bool,
+}
+
+/// Whether a turn in which nothing comes and nothing is offered leaves what two judges tell of probed addresses.
+fn are_settled(alloc: Global, local: &LocalJudge, lease: &LeaseJudge) -> Result<bool, NoMemory>
+    ensures { IfOk result (λ settled. settled ≡ true → AreSettled local.now lease.now) }
+{
+    if !local.is_settled(alloc)? {
+        return Ok(false);
+    }
+    let settled = lease.is_settled(alloc)?;
+    Ok(settled)
 }
 
 impl IfaceJudge {
@@ -80,6 +93,7 @@ impl Judge for IfaceJudge {
 
     ghost is_shared = { is_shared };
 
+    #[tactic(auto, using(crate::proofs::Staying::local_first))]
     fn first(alloc: Global, site: &Site) -> Result<IfaceJudge, NoMemory> {
         Ok(IfaceJudge {
             statics: StaticJudge::first(site),
@@ -88,6 +102,7 @@ impl Judge for IfaceJudge {
             items: ItemJudge::first(alloc, site)?,
             kept4: Kept4::first(site),
             kept6: Kept6::first(site),
+            settled: false,
         })
     }
 
@@ -99,12 +114,14 @@ impl Judge for IfaceJudge {
             items,
             kept4,
             kept6,
+            ..
         } = self;
         let local = local.turned(alloc, site, entry)?;
         let lease = lease.turned(alloc, site, entry)?;
         let items = items.turned(alloc, site, entry)?;
         let kept4 = kept4_turned(alloc, kept4, &lease, site, entry)?;
         let kept6 = kept6_turned(alloc, kept6, &items, site, entry)?;
+        let settled = are_settled(alloc, &local, &lease)?;
         Ok(IfaceJudge {
             statics: statics.turned(site, entry),
             local,
@@ -112,7 +129,12 @@ impl Judge for IfaceJudge {
             items,
             kept4,
             kept6,
+            settled,
         })
+    }
+
+    fn stays(&self, site: &Site, entry: &Entry) -> bool {
+        self.settled && !concerns(site, entry)
     }
 
     fn owns(&self, site: &Site, net: Net, moment: u64) -> bool {

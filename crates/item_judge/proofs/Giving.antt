@@ -154,7 +154,7 @@ module _ (site : Site) (now : ℕ) (past : List Entry) where
   fits : (ask : IaAsk) (net : Net6) → is_na ask.kind ≡ true → (net.len == 128) ≡ true → FitsKind ask.kind net
   fits ask net na len = subst (λ (k : IaKind). FitsKind k net) (sym (na_of ask.kind na)) (eqb-true net.len 128 len)
 
-  holds_same : (net : Net6) (table : ItemTable) (ask : IaAsk) → TellsItems site past table ask → holds_address table net now ≡ gives net ask
+  pub holds_same : (net : Net6) (table : ItemTable) (ask : IaAsk) → TellsItems site past table ask → holds_address table net now ≡ gives net ask
   holds_same net table ask t =
       ap (λ (a : IaAsk). is_na a.kind && (net.len == 128) && is_held now (term_at table.terms net)) t.ask_is
       ∙ gated (is_na ask.kind) (net.len == 128) (is_held now (term_at table.terms net)) (is_held now (heard_in site ask net past))

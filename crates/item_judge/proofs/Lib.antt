@@ -6,3 +6,4 @@ pub mod Turned
 pub mod Giving
 pub mod OwnWalks
 mod Replied
+mod HearingTold

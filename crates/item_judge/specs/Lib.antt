@@ -7,3 +7,4 @@ pub mod Telling
 pub mod Turns
 pub mod Judging
 pub mod Replying
+pub mod Hearing

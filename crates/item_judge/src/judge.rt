@@ -11,18 +11,20 @@ ghost use Rattle.lease6_evidence.specs.Replies6.{message6_at};
 ghost use Rattle.audit_words.specs.Shown.{entry_shown, offer_shown, site_shown};
 ghost use Rattle.item_judge.specs.Asking as states;
 ghost use Rattle.item_judge.specs.Judging.{AreTurned, Tells, TellsTables, holds_address, holds_prefix, is_delegated, is_given, is_na, is_pd, offers_next};
+ghost use Rattle.item_judge.specs.Hearing.{hears_item, holder_among, holder_in};
 ghost use Rattle.item_judge.specs.Kept.{asking_content, heard_content};
 ghost use Rattle.item_judge.specs.Replying.{has_good};
 
 use crate::asking::{Asking, said_next};
 use crate::heard::{Heard, carrier_after, heard_by, message6_at, reported_at, stays};
 use crate::own::{ask_for, message6_of};
-use crate::table::{ADDRESS_BITS, ItemTable, Turn};
+use crate::table::{ADDRESS_BITS, ItemTable, Turn, gives_alone};
 use crate::terms::Terms;
 use audit_words::{Entry, Offer, Site};
 use net_types::{Net, Net6, NoMemory};
 use settings::IaConf;
 use std::alloc::Global;
+use v6_client::IaAsk;
 use v6_options::IaKind;
 
 /// What is kept of an interface: whether it has carrier, the exchange that is open, and the items that the Replies to
@@ -165,6 +167,18 @@ fn some_delegates(tables: &[ItemTable], iaid: u32, net: Net6, now: u64) -> bool
         .any(|table| holds_prefix(table, iaid, net, now))
 }
 
+/// The IA of the first table that has an item as an address, and holds it at a moment.
+fn holder_among(tables: &[ItemTable], net: Net6, now: u64) -> Option<IaAsk>
+    ensures { result ≡ holder_among tables.now net now }
+{
+    'tables: for table in tables {
+        if holds_address(table, net, now) {
+            return Some(table.ask);
+        }
+    }
+    None
+}
+
 impl ItemJudge {
     /// The judge before all turns.
     pub fn first(alloc: Global, site: &Site) -> Result<ItemJudge, NoMemory>
@@ -209,6 +223,35 @@ impl ItemJudge {
     {
         let heard = heard_by(alloc, site, &self.asking, message6_at(site, entry))?;
         Ok(heard.is_some())
+    }
+
+    /// Whether the good Reply of a turn gives an item by itself, which isn't over at a moment. The judge is after that
+    /// turn.
+    pub fn hears(
+        &self,
+        alloc: Global,
+        site: &Site,
+        entry: &Entry,
+        ask: IaAsk,
+        net: Net6,
+        now: u64,
+    ) -> Result<bool, NoMemory>
+        requires { entry.now.moment < 10 ^ 15 }
+        ensures { IfOk result
+            (λ gives. (past : List told.Entry)
+            → Tells self.now (site_shown site.now) (entry_shown entry.now ∷ past)
+            → gives ≡ hears_item (site_shown site.now) ask net now (entry_shown entry.now) past) }
+    {
+        let heard = heard_by(alloc, site, &self.asking, message6_at(site, entry))?;
+        gives_alone(alloc, ask, entry.moment, heard, net, now)
+    }
+
+    /// The first IA_NA that the interface asks for which holds an address at a moment.
+    pub fn holder(&self, net: Net6, now: u64) -> Option<IaAsk>
+        ensures { (site : inputs.Site) (past : List told.Entry) → Tells self.now site past
+            → result ≡ holder_in site net now past }
+    {
+        holder_among(&self.tables, net, now)
     }
 
     /// Whether the interface holds a net at a moment as an address of an IA_NA that it asks for.

@@ -5,7 +5,7 @@ ghost use Rattle.std.specs.Option.{option_map};
 ghost use Rattle.net_types.specs.declared.address.Net6.{Net6};
 ghost use Rattle.v6_message.specs.Shown.{message_shown};
 ghost use Rattle.lease6_judge.specs.HeardTerms.{heard_from, if_unrevised};
-ghost use Rattle.lease6_judge.specs.Terms.{if_left, names, revises};
+ghost use Rattle.lease6_judge.specs.Terms.{if_left, is_held, names, not_held, revises};
 ghost use Rattle.item_judge.specs.Kept.{heard_content};
 ghost use Rattle.item_judge.specs.Tables.{term_at};
 ghost use Rattle.item_judge.specs.Telling.{term_next};
@@ -112,6 +112,24 @@ fn hear(
         Some(heard) => hear_one(terms, alloc, ask, came, &heard),
         None => Ok(()),
     }
+}
+
+/// Whether a good Reply gives an item of an IA by itself, for a time that isn't over at a moment.
+pub(crate) fn gives_alone(
+    alloc: Global,
+    ask: IaAsk,
+    came: u64,
+    heard: Option<Heard>,
+    net: Net6,
+    now: u64,
+) -> Result<bool, NoMemory>
+    requires { came < 10 ^ 15 }
+    ensures { IfOk result
+        (λ gives. gives ≡ is_held now (term_next came ask net (option_map heard_content heard.entry) not_held)) }
+{
+    let mut terms = Terms::new(alloc);
+    hear(&mut terms, alloc, ask, came, heard)?;
+    Ok(terms.holds(net, now))
 }
 
 /// What stays of the items, or nothing.

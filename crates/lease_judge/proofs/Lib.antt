@@ -7,3 +7,5 @@ mod ShownMessages
 mod TurnsTold
 mod ProbesHeld
 mod AnswersTold
+mod NumbersTold
+mod SettledProbes

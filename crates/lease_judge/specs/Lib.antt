@@ -6,3 +6,4 @@ pub mod Watched
 pub mod Probes
 pub mod Turns
 pub mod Answers
+pub mod Numbers

@@ -1,5 +1,5 @@
 -- What the code keeps of the addresses that are probed.
-use Rattle.std.specs.Prelude.{◌≡◌, ℕ, Bool, not, ◌&&◌, ◌||◌, List}
+use Rattle.std.specs.Prelude.{◌≡◌, ℕ, ◌<◌, ◌^◌, Bool, true, not, ◌&&◌, ◌||◌, List}
 use Rattle.std.specs.List.{list_any}
 use Rattle.net_types.specs.AddressText.{FitsIp4}
 use Rattle.net_types.specs.declared.address.Ip4.{Ip4}
@@ -34,6 +34,11 @@ AreFresh probes now fresh = (addr : Ip4) → list_any (is_addr addr) fresh ≡ i
 pub record IsTurned (site : Site) (entry : Entry) (calm : Bool) (old new : LeaseProbes) : Type 0 where
   pub table : table.IsTurned site entry calm old.table new.table
   pub probed : (addr : Ip4) → probed_of new addr ≡ (calm && (is_ready old entry.moment addr || probed_of old addr))
+
+-- Each address whose third probe is two seconds ago at some moment is a probed one.
+abbrev pub AreSettled : LeaseProbes → Type 0
+AreSettled probes = (addr : Ip4) (now : ℕ) → now < 2 ^ 64 → is_ready probes now addr ≡ true
+    → probed_of probes addr ≡ true
 
 -- What is kept is what the definitions have after some turns.
 pub record Holds (site : told_of.Site) (past : List told.Entry) (probes : LeaseProbes) : Type 0 where

@@ -1,10 +1,11 @@
 //! Which addresses of an interface were probed (RFC 5227, section 2.1.1), as it counts for leases.
 
-ghost use Rattle.std.specs.Prelude.{◌≡◌, ◌++◌, [], filter, IfOk};
+ghost use Rattle.std.specs.Prelude.{◌≡◌, true, ◌++◌, [], filter, IfOk};
+ghost use Rattle.std.specs.List.{list_all};
 ghost use Rattle.net_types.specs.declared.address.Ip4.{Ip4};
 ghost use Rattle.probe_table.specs.ProbeTimes.{no_probes};
 ghost use Rattle.probe_table.specs.Table.{times_of};
-ghost use Rattle.lease_judge.specs.Probes.{AreFresh, IsTurned, is_fresh, probed_of};
+ghost use Rattle.lease_judge.specs.Probes.{AreFresh, AreSettled, IsTurned, is_fresh, probed_of};
 
 use audit_words::{Entry, Site};
 use net_types::{Ip4, NoMemory};
@@ -62,6 +63,20 @@ impl LeaseProbes {
         ensures { result ≡ probed_of self.now addr }
     {
         self.probed.contains(&addr)
+    }
+
+    /// Whether each address that was probed three times is a probed one.
+    pub fn is_settled(&self, alloc: Global) -> Result<bool, NoMemory>
+        ensures { IfOk result (λ settled. settled ≡ true → AreSettled self.now) }
+    {
+        let thrice = self.table.probed_thrice(alloc, 0, u64::MAX)?;
+        Ok(self.are_probed(&thrice))
+    }
+
+    fn are_probed(&self, addrs: &[Ip4]) -> bool
+        ensures { result ≡ list_all (probed_of self.now) addrs.now }
+    {
+        addrs.iter().all(|addr| self.is_probed(*addr))
     }
 
     /// Whether a turn makes an address a probed one that isn't yet.

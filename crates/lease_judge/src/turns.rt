@@ -1,16 +1,20 @@
 //! A judge of leases, which takes one turn after another (RFC 2131, sections 3.1 and 4.4).
 
-ghost use Rattle.std.specs.Prelude.{◌≡◌, ◌∷◌, [], List, IfOk};
+ghost use Rattle.std.specs.Prelude.{◌≡◌, true, ◌∷◌, [], List, IfOk};
 ghost use Rattle.std.specs.Option.{option_map};
 ghost use Rattle.net_types.specs.Moments.{IsMoment};
 ghost use Rattle.v4_client.specs.Settings.{settings_content};
 ghost use Rattle.v4_frames.specs.Heard.{heard_shown};
 ghost use Rattle.evidence_words.specs.Entries as told_entries;
+ghost use Rattle.evidence_words.specs.Inputs as told_of;
 ghost use Rattle.lease_evidence.specs.Exchanges.{messages_at, seen_in};
 ghost use Rattle.lease_evidence.specs.Replies.{arrival_in, message_on, reply_by};
 ghost use Rattle.audit_words.specs.Shown.{FitsSite, entry_shown, site_shown};
 ghost use Rattle.lease_judge.specs.Answers.{answer_by, answer_in};
+ghost use Rattle.lease_judge.specs.Judge.{judge_in};
 ghost use Rattle.lease_judge.specs.Leased.{is_leased};
+ghost use Rattle.lease_judge.specs.Numbers.{granted_number, open_number};
+ghost use Rattle.lease_judge.specs.ProbedTurns.{IsSettled, calm_in};
 ghost use Rattle.lease_judge.specs.Turns.{Tells};
 ghost use Rattle.lease_judge.specs.Watched.{HasMoment, HasMoments, hears_by, judge_shown, seen_shown};
 
@@ -171,6 +175,46 @@ impl LeaseJudge {
             ≡ answer_in (site_shown site.now) (entry_shown entry.now) (seen_in (site_shown site.now) past).current }
     {
         answer_in(&self.set, site, entry, &self.watch.seen)
+    }
+
+    /// The number of the exchange that is open after the turns so far. They are counted from 1, since two may be alike.
+    #[tactic(auto, using(crate::proofs::NumbersTold::open_so))]
+    pub fn open_number(&self) -> Option<u64>
+        ensures { (site : told_of.Site) (past : List told_entries.Entry) → Tells self.now site past
+            → result ≡ open_number (seen_in site past) }
+    {
+        self.watch.open_number()
+    }
+
+    /// That of the exchange whose grant stands after the turns so far.
+    #[tactic(auto, using(crate::proofs::NumbersTold::granted_so))]
+    pub fn granted_number(&self) -> Option<u64>
+        ensures { (site : told_of.Site) (past : List told_entries.Entry) → Tells self.now site past
+            → result ≡ granted_number (judge_in site past).granted }
+    {
+        self.watch.granted_number()
+    }
+
+    /// Whether the turn after those so far is calm: it ends no lease.
+    #[tactic(auto, using(crate::proofs::NumbersTold::calm_so))]
+    pub fn is_calm(&self, alloc: Global, site: &Site, entry: &Entry) -> Result<bool, NoMemory>
+        ensures { IfOk result
+            (λ calm. (past : List told_entries.Entry) → Tells self.now (site_shown site.now) past
+            → calm ≡ calm_in (site_shown site.now) (entry_shown entry.now) past) }
+    {
+        let messages = self.messages(alloc, site, entry)?;
+        Ok(self.watch.is_calm(site.index(), entry.event, &messages))
+    }
+
+    /// Whether each address that was probed three times is a probed one: a turn in which nothing comes and nothing is
+    /// offered changes nothing then.
+    #[tactic(auto, using(crate::proofs::SettledProbes::turns_settled))]
+    pub fn is_settled(&self, alloc: Global) -> Result<bool, NoMemory>
+        ensures { IfOk result (λ settled. settled ≡ true
+            → (site : told_of.Site) (past : List told_entries.Entry) → Tells self.now site past → IsSettled site past) }
+    {
+        let settled = self.probes.is_settled(alloc)?;
+        Ok(settled)
     }
 
     /// Whether an address has its basis as a leased one at a moment in milliseconds since 1970.

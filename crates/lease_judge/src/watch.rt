@@ -8,6 +8,7 @@ ghost use Rattle.lease_evidence.specs.Exchanges.{exchange_of, opens, requests, s
 ghost use Rattle.lease_evidence.specs.LeaseBasis.{ends_lease, tells_end};
 ghost use Rattle.lease_judge.specs.Judge.{stays, told};
 ghost use Rattle.lease_judge.specs.Leased.{grants, is_same};
+ghost use Rattle.lease_judge.specs.Numbers.{granted_number, open_number};
 ghost use Rattle.lease_judge.specs.Watched.{HasMoment, HasMoments, first_of, judge_shown, numbered_shown, seen_shown, sees_by};
 
 use lease_text::Terms4;
@@ -255,6 +256,26 @@ impl Watch {
                 ..self
             },
             Answer4::Nothing | Answer4::Offer { .. } => self,
+        }
+    }
+
+    /// The number of the exchange that is open.
+    pub fn open_number(&self) -> Option<u64>
+        ensures { result ≡ open_number (judge_shown self.now).seen }
+    {
+        match self.seen.current {
+            Some(opened) => Some(opened.number),
+            None => None,
+        }
+    }
+
+    /// That of the exchange whose grant stands.
+    pub fn granted_number(&self) -> Option<u64>
+        ensures { result ≡ granted_number (judge_shown self.now).granted }
+    {
+        match self.granted {
+            Some(granted) => Some(granted.opened.number),
+            None => None,
         }
     }
 

@@ -1,8 +1,9 @@
 pub mod Calmness
 pub mod ProbesTold
 mod Moments
-mod Announcing
+pub mod Announcing
 mod ChoicesTold
 mod AnnouncedOnly
 mod Turns
+pub mod SettledChoices
 pub mod Telling

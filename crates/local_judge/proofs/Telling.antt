@@ -59,10 +59,10 @@ bases site net past = (has_basis site past net, is_given site past net)
 
 -- ---- what the judge holds of one address
 
-in_bounds : (addr : Ip4) → in_range addr ≡ true → FitsIp4 addr
+pub in_bounds : (addr : Ip4) → in_range addr ≡ true → FitsIp4 addr
 in_bounds addr h = let c = is_choice addr h in let most : addr.number ≤ 0xa9fe_feff = c.at_most in omega arith
 
-if_in_range : (of_local range mine told : Bool) → (range ≡ true → mine ≡ told) → (of_local && range && mine) ≡ (of_local && range && told)
+pub if_in_range : (of_local range mine told : Bool) → (range ≡ true → mine ≡ told) → (of_local && range && mine) ≡ (of_local && range && told)
 if_in_range true true mine told h = h refl
 if_in_range true false mine told h = refl
 if_in_range false range mine told h = refl

@@ -1,3 +1,4 @@
 pub mod Choices
 pub mod Judge
+pub mod Settled
 pub mod Laws

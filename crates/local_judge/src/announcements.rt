@@ -1,10 +1,13 @@
 //! Which addresses the frames of a turn announce.
 
 ghost use Rattle.std.specs.Prelude.{◌≡◌, IfOk};
-ghost use Rattle.std.specs.List.{filter_map};
+ghost use Rattle.std.specs.List.{filter_map, list_all};
+ghost use Rattle.audit_words.specs.Shown.{entry_shown, site_shown};
+ghost use Rattle.probe_table.specs.ByAddress.{is_addr};
+ghost use Rattle.local_judge.specs.Choices.{is_alone};
 ghost use Rattle.local_judge.specs.Judge.{announced_in, announcement_of};
 
-use audit_words::{Offer, Site};
+use audit_words::{Entry, Offer, Site};
 use frame_link::{arp_frame, ip4_at};
 use net_types::{Ip4, Mac};
 use std::alloc::{AllocError, Global};
@@ -36,6 +39,21 @@ fn announcement_of(site: &Site, offer: &Offer) -> Option<Ip4>
     } else {
         None
     }
+}
+
+/// Whether each of some addresses is this one.
+pub fn are_all(addrs: &[Ip4], addr: Ip4) -> bool
+    ensures { result ≡ list_all (is_addr addr) addrs.now }
+{
+    addrs.iter().all(|other| *other == addr)
+}
+
+/// Whether no other address is announced in a turn.
+pub fn is_alone(alloc: Global, site: &Site, entry: &Entry, addr: Ip4) -> Result<bool, AllocError>
+    ensures { IfOk result (λ alone. alone ≡ is_alone (site_shown site.now) addr (entry_shown entry.now)) }
+{
+    let announced = announced_addresses(alloc, site, &entry.offers)?;
+    Ok(are_all(&announced, addr))
 }
 
 /// The addresses that are announced by frames of the interface, in order.

@@ -1,15 +1,16 @@
 //! Which link-local addresses of an interface stand on their basis, turn by turn.
 
-ghost use Rattle.std.specs.Prelude.{◌≡◌, ◌∷◌, [], List, IfOk};
+ghost use Rattle.std.specs.Prelude.{◌≡◌, true, ◌∷◌, [], List, IfOk};
 ghost use Rattle.std.specs.List.{filter_map, list_all, list_any};
 ghost use Rattle.evidence_words.specs.Entries as told;
 ghost use Rattle.evidence_words.specs.Inputs as told_of;
 ghost use Rattle.audit_words.specs.Shown.{entry_shown, site_shown};
-ghost use Rattle.probe_table.specs.ByAddress.{is_addr, is_for};
+ghost use Rattle.probe_table.specs.ByAddress.{is_for};
 ghost use Rattle.local_judge.specs.Choices.{goes_on};
+ghost use Rattle.local_judge.specs.Settled.{IsSettled, is_unused};
 ghost use Rattle.local_judge.specs.Judge.{AreEntered, ChoicesGoOn, Tells, choice_at, chosen_addr, fits_in, gives_in, in_range, left_of, stands_in, turn_at};
 
-use crate::announcements::announced_addresses;
+use crate::announcements::{announced_addresses, are_all};
 use crate::choices::{Choice, ChoiceTurn};
 use audit_words::{Entry, Site};
 use frame_link::ArpView;
@@ -83,15 +84,8 @@ impl LocalTurn<'_> {
     }
 }
 
-/// Whether each of some addresses is this one.
-fn are_all(addrs: &[Ip4], addr: Ip4) -> bool
-    ensures { result ≡ list_all (is_addr addr) addrs.now }
-{
-    addrs.iter().all(|other| *other == addr)
-}
-
 /// Whether no carrier is taken from an interface that has it, nothing of it is given back, and no stop comes.
-fn goes_on(up: bool, index: u32, event: Event) -> bool
+pub fn goes_on(up: bool, index: u32, event: Event) -> bool
     ensures { result ≡ goes_on up index event }
 {
     match event {
@@ -123,6 +117,23 @@ fn choice_among(chosen: &[Chosen], addr: Ip4) -> Option<Choice>
         }
     }
     None
+}
+
+/// Whether an address's choice stands, and no other host used it since.
+fn is_unused(chosen: &[Chosen], addr: Ip4) -> bool
+    ensures { result ≡ is_unused (choice_at chosen.now addr) }
+{
+    match choice_among(chosen, addr) {
+        Some(choice) => choice.used.is_none(),
+        None => false,
+    }
+}
+
+/// Whether that is so with each of some addresses.
+fn are_unused(addrs: &[Ip4], chosen: &[Chosen]) -> bool
+    ensures { result ≡ list_all (λ addr. is_unused (choice_at chosen.now addr)) addrs.now }
+{
+    addrs.iter().all(|addr| is_unused(chosen, *addr))
 }
 
 /// The addresses that may be chosen, and behind them those of the candidates that weren't among them.
@@ -223,6 +234,16 @@ impl LocalJudge {
             probed,
             chosen,
         })
+    }
+
+    /// Whether the choice of each address that was probed three times stands, and no other host used it since. A turn
+    /// in which nothing comes and nothing is offered changes then no choice but for the turn since which it stands.
+    pub fn is_settled(&self, alloc: Global) -> Result<bool, NoMemory>
+        ensures { IfOk result (λ settled. settled ≡ true
+            → (site : told_of.Site) (past : List told.Entry) → Tells self.now site past → IsSettled site past) }
+    {
+        let probed = self.probed.probed_thrice(alloc, 0, u64::MAX)?;
+        Ok(are_unused(&probed, &self.chosen))
     }
 
     /// Whether an address of IPv4 is one that was chosen, and its choice stands.

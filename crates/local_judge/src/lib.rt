@@ -6,6 +6,7 @@ mod choices;
 mod judge;
 mod laws;
 
+pub use announcements::is_alone;
 pub use choices::{Choice, ChoiceTurn};
-pub use judge::{Chosen, LocalJudge};
+pub use judge::{Chosen, LocalJudge, goes_on};
 pub use laws::{choices_are_told, chosen_have_bases, probes_are_told};

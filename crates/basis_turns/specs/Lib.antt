@@ -1,0 +1,17 @@
+pub mod Turns
+pub mod Chains
+pub mod ProbedIn
+pub mod ProbeWalks
+pub mod LeaseShown
+pub mod LeaseFinds
+pub mod LeaseWalks
+pub mod LocalShown
+pub mod LocalFinds
+pub mod LocalWalks
+pub mod Laws
+pub mod ItemShown
+pub mod ItemFinds
+pub mod ItemLaws
+pub mod ItemWalks
+pub mod BasisFinds
+pub mod BasisShown
