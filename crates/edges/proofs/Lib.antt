@@ -6,3 +6,4 @@ pub mod ScriptCalls
 pub mod FolderSteps
 pub mod ListingRows
 pub mod WaitSteps
+pub mod WaitEnds

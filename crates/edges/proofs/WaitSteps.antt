@@ -1,12 +1,12 @@
 -- What comes in a wait, call by call.
-use Rattle.std.proofs.Common.{◌≡◌, ℕ, Bool, true, false, cond, inl, inr, List, [], ◌∷◌, ◌++◌, append-nil, length, take, drop, Option, None, Some, Result, Ok, Err, refl, sym, subst, ap, ◌∙◌}
+use Rattle.std.proofs.Common.{◌≡◌, ℕ, Bool, true, false, cond, inl, inr, List, [], ◌∷◌, ◌++◌, append-nil, length, take, drop, Option, None, Some, Ok, Err, refl, subst, ap, ◌∙◌}
 use Rattle.world.specs.declared.wakes.Event.{Event}
 use Rattle.world.specs.declared.wakes.Event.TheVariants.{Quiet}
 use Rattle.world.specs.LinkCalls.{frame_len, cut_event}
 use Rattle.edges.specs.declared.datagrams.TheConstants.{HEAD}
 use Rattle.edges.specs.Datagrams.{event_said}
 use Rattle.edges.specs.WireCalls.{WireCall, Bound, Limited, Received, Sent, WallRead, SteadyRead, TellsMoment, Receives, is_from}
-use Rattle.edges.specs.Waits.{heard_from, HearsAll, HearsNone, Brings, BringsYet}
+use Rattle.edges.specs.Waits.{heard_from, HearsAll, HearsNone, Brings, BringsYet, Brought, Says}
 use Rattle.edges.proofs.Doing.{behind}
 
 one_more : (is : Bool) (bytes : List ℕ) (all later earlier : List (List ℕ)) → all ≡ later ++ earlier
@@ -47,25 +47,25 @@ pub both_quiet : (peer : ℕ) (old mid new : Option (List WireCall)) → HearsNo
 both_quiet peer old mid new first second = hears_both peer [] [] old mid new first second
 
 -- a piece in which nothing of the peer came
-pub none_heard : (millis peer room : ℕ) (datagram buffer : List ℕ) (old new : Option (List WireCall)) → Receives millis peer datagram old new (Ok None)
-    → BringsYet peer None room buffer old new
-none_heard millis peer room datagram buffer old new (inl (other, strange, asked)) = record {
+pub none_heard : (millis peer room : ℕ) (due : Type 0) (datagram buffer : List ℕ) (old new : Option (List WireCall))
+    → Receives millis peer datagram old new (Ok None) → BringsYet peer due None room buffer old new
+none_heard millis peer room due datagram buffer old new (inl (other, strange, asked)) = record {
   made = Received (Ok other) ∷ Limited millis None ∷ [];
   asked = asked;
   all = ap (λ is. cond is (other.bytes ∷ []) []) strange;
 }
-none_heard millis peer room datagram buffer old new (inr (kind, over, asked)) = record {
+none_heard millis peer room due datagram buffer old new (inr (kind, over, asked)) = record {
   made = Received (Err kind) ∷ Limited millis None ∷ [];
   asked = asked;
   all = refl;
 }
 
 -- and one in which a datagram of the peer came
-pub one_heard : (millis peer room len : ℕ) (datagram buffer : List ℕ) (event : Event) (old new : Option (List WireCall))
+pub one_heard : (millis peer room len : ℕ) (due : Type 0) (datagram buffer : List ℕ) (event : Event) (old new : Option (List WireCall))
     → Receives millis peer datagram old new (Ok (Some len))
     → event ≡ cut_event (event_said (take len datagram)) (length (drop HEAD (take len datagram))) room
-    → take (frame_len event) buffer ≡ take (frame_len event) (drop HEAD (take len datagram)) → BringsYet peer (Some event) room buffer old new
-one_heard millis peer room len datagram buffer event old new received says frame = record {
+    → take (frame_len event) buffer ≡ take (frame_len event) (drop HEAD (take len datagram)) → BringsYet peer due (Some event) room buffer old new
+one_heard millis peer room len due datagram buffer event old new received says frame = record {
   heard = take len datagram ∷ [];
   came = record {
     made = Received (Ok (record { bytes = take len datagram; sender = received.sender })) ∷ Limited millis None ∷ [];
@@ -76,38 +76,54 @@ one_heard millis peer room len datagram buffer event old new received says frame
 }
 
 -- a wait in which nothing came is quiet, where it's over
-pub quiet_or_on : (peer room : ℕ) (buffer : List ℕ) (over : Bool) (heard : Option Event) (old new : Option (List WireCall)) → heard ≡ cond over (Some Quiet) None
-    → HearsNone peer old new → BringsYet peer heard room buffer old new
-quiet_or_on peer room buffer true heard old new is none = rw is (record { heard = []; came = none; says = refl })
-quiet_or_on peer room buffer false heard old new is none = rw is none
+pub quiet_or_on : (peer room : ℕ) (due : Type 0) (buffer : List ℕ) (over : Bool) (heard : Option Event) (old new : Option (List WireCall))
+    → heard ≡ cond over (Some Quiet) None → (over ≡ true → due) → HearsNone peer old new → BringsYet peer due heard room buffer old new
+quiet_or_on peer room due buffer true heard old new is over none = rw is (record { heard = []; came = none; says = (refl, over refl) })
+quiet_or_on peer room due buffer false heard old new is over none = rw is none
 
 -- what comes behind calls in which nothing was heard, and before such calls
-pub then_brings : (peer room : ℕ) (buffer : List ℕ) (heard : Option Event) (old mid new : Option (List WireCall)) → HearsNone peer old mid
-    → BringsYet peer heard room buffer mid new → BringsYet peer heard room buffer old new
-then_brings peer room buffer None old mid new first rest = both_quiet peer old mid new first rest
-then_brings peer room buffer (Some event) old mid new first rest = record {
+pub then_brings : (peer room : ℕ) (due : Type 0) (buffer : List ℕ) (heard : Option Event) (old mid new : Option (List WireCall)) → HearsNone peer old mid
+    → BringsYet peer due heard room buffer mid new → BringsYet peer due heard room buffer old new
+then_brings peer room due buffer None old mid new first rest = both_quiet peer old mid new first rest
+then_brings peer room due buffer (Some event) old mid new first rest = record {
   heard = rest.heard ++ [];
   came = hears_both peer [] rest.heard old mid new first rest.came;
   says = rw (append-nil rest.heard) rest.says;
 }
 
-pub piece_brings : (peer kept room space : ℕ) (buffer : List ℕ) (heard : Option Event) (event : Event) (old mid new : Option (List WireCall)) → kept ≡ peer
-    → space ≡ room → heard ≡ Some event → HearsNone peer old mid → BringsYet kept heard space buffer mid new
-    → Brings peer (record { event = event; room = room; buffer = buffer }) old new
-piece_brings peer kept room space buffer heard event old mid new same all is first rest =
-    then_brings peer room buffer (Some event) old mid new first
-    (subst (λ p. BringsYet p (Some event) room buffer mid new) same
-    (subst (λ n. BringsYet kept (Some event) n buffer mid new) all (subst (λ h. BringsYet kept h space buffer mid new) is rest)))
+pub piece_brings : (peer kept room space : ℕ) (due : Type 0) (buffer : List ℕ) (heard : Option Event) (event : Event) (old mid new : Option (List WireCall))
+    → kept ≡ peer → space ≡ room → heard ≡ Some event → HearsNone peer old mid → BringsYet kept due heard space buffer mid new
+    → Brings peer due (record { event = event; room = room; buffer = buffer }) old new
+piece_brings peer kept room space due buffer heard event old mid new same all is first rest =
+    then_brings peer room due buffer (Some event) old mid new first
+    (subst (λ p. BringsYet p due (Some event) room buffer mid new) same
+    (subst (λ n. BringsYet kept due (Some event) n buffer mid new) all (subst (λ h. BringsYet kept due h space buffer mid new) is rest)))
 
-pub brings_then : (peer kept room : ℕ) (buffer : List ℕ) (event : Event) (old mid new : Option (List WireCall)) → kept ≡ peer
-    → Brings peer (record { event = event; room = room; buffer = buffer }) old mid → HearsNone kept mid new
-    → Brings peer (record { event = event; room = room; buffer = buffer }) old new
-brings_then peer kept room buffer event old mid new same first last = record {
+says_if : (due later : Type 0) (heard : List (List ℕ)) (brought : Brought) → (due → later) → Says due heard brought → Says later heard brought
+says_if due later [] brought f says = (says.0, f says.1)
+says_if due later (datagram ∷ []) brought f says = says
+says_if due later (datagram ∷ earlier ∷ heard) brought f says = says
+
+-- what follows from what holds of a quiet wait
+pub brings_if : (peer : ℕ) (due later : Type 0) (brought : Brought) (old new : Option (List WireCall)) → (due → later) → Brings peer due brought old new
+    → Brings peer later brought old new
+brings_if peer due later brought old new f brings = record {
+  heard = brings.heard;
+  came = brings.came;
+  says = says_if due later brings.heard brought f brings.says;
+}
+
+pub yet_if : (peer room : ℕ) (due later : Type 0) (buffer : List ℕ) (heard : Option Event) (old new : Option (List WireCall)) → (due → later)
+    → BringsYet peer due heard room buffer old new → BringsYet peer later heard room buffer old new
+yet_if peer room due later buffer None old new f none = none
+yet_if peer room due later buffer (Some event) old new f brings =
+    brings_if peer due later (record { event = event; room = room; buffer = buffer }) old new f brings
+
+pub brings_then : (peer kept room : ℕ) (due : Type 0) (buffer : List ℕ) (event : Event) (old mid new : Option (List WireCall)) → kept ≡ peer
+    → Brings peer due (record { event = event; room = room; buffer = buffer }) old mid → HearsNone kept mid new
+    → Brings peer due (record { event = event; room = room; buffer = buffer }) old new
+brings_then peer kept room due buffer event old mid new same first last = record {
   heard = first.heard;
   came = hears_both peer first.heard [] old mid new first.came (subst (λ p. HearsNone p mid new) same last);
   says = first.says;
 }
-
-pub quiet_at_last : (peer room : ℕ) (buffer : List ℕ) (old new : Option (List WireCall)) → HearsNone peer old new
-    → Brings peer (record { event = Quiet; room = room; buffer = buffer }) old new
-quiet_at_last peer room buffer old new none = record { heard = []; came = none; says = refl }

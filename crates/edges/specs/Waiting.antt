@@ -1,8 +1,9 @@
 -- How long the loopback link waits, and what ends a wait.
-use Rattle.std.specs.Prelude.{ℕ, Bool, true, false, ◌+◌, ◌-◌, ◌/◌, min, max, nat_le, Option, None, Some, Result, Ok, Err, if◌then◌else◌}
+use Rattle.std.specs.Prelude.{ℕ, Bool, true, false, ◌≡◌, ◌≤◌, ◌+◌, ◌-◌, ◌/◌, min, max, nat_le, Option, None, Some, option_map, Result, Ok, Err, if◌then◌else◌}
 use Rattle.std.specs.declared.io.ErrorKind.{ErrorKind}
 use Rattle.std.specs.declared.io.ErrorKind.TheVariants as kind
 use Rattle.std.specs.declared.process.status.ExitStatus.{ExitStatus}
+use Rattle.edges.specs.declared.moments.Moments.{Moments}
 use Rattle.edges.specs.declared.processes.Seen.{Seen}
 use Rattle.edges.specs.declared.processes.Seen.TheVariants.{NoChild, Runs, Ended}
 use Rattle.edges.specs.declared.links.TheConstants.{IDLE, LONGEST, SHORT, GLANCE}
@@ -24,6 +25,11 @@ seen_by (Some (Ok (Some status))) = Ended
 seen_by (Some (Ok None)) = Runs
 seen_by (Some (Err kind)) = Runs
 
+abbrev pub is_ended : Seen → Bool
+is_ended NoChild = false
+is_ended Runs = false
+is_ended Ended = true
+
 -- While a child runs it is looked at in between. One that has ended leaves but a look at what came.
 abbrev pub glancing : Seen → ℕ → ℕ
 glancing NoChild piece = piece
@@ -36,3 +42,41 @@ is_over kind.WouldBlock = true
 is_over kind.TimedOut = true
 is_over kind.Interrupted = true
 is_over failure = false
+
+-- ---- when a wait is over in which nothing came: where a child has ended, if that is told, and else at its moment
+
+-- the last moment that was told, where a life has begun
+abbrev pub last_told : Option Moments → Option ℕ
+last_told moments = option_map (λ kept. kept.last) moments
+
+abbrev pub is_come : (end : ℕ) → (last : Option ℕ) → Bool
+is_come end None = false
+is_come end (Some last) = nat_le end last
+
+-- whether the moment at which a wait ends has come, by that
+abbrev pub has_come : (end : ℕ) → Option Moments → Bool
+has_come end moments = is_come end (last_told moments)
+
+abbrev pub IsOver : (ended : Option Bool) → (end : ℕ) → Option Moments → (over : Bool) → Type 0
+IsOver (Some true) end moments over = over ≡ true
+IsOver (Some false) end moments over = over ≡ has_come end moments
+IsOver None end moments true = Unit {0}
+IsOver None end moments false = has_come end moments ≡ false
+
+-- it is over no sooner than at its moment
+abbrev pub IsDue : (ended : Option Bool) → (end : ℕ) → Option Moments → Type 0
+IsDue (Some true) end moments = Unit {0}
+IsDue (Some false) end moments = has_come end moments ≡ true
+IsDue None end moments = Unit {0}
+
+-- the same where some moment was asked for
+abbrev pub IsDueBy : (ended : Option Bool) → (until : Option ℕ) → Option Moments → Type 0
+IsDueBy ended None moments = Unit {0}
+IsDueBy ended (Some until) moments = IsDue ended until moments
+
+-- no child has ended, and the moment isn't before the one asked for
+abbrev pub IsAwaited : (ended : Option Bool) → (until : Option ℕ) → (at : ℕ) → Type 0
+IsAwaited None until at = Unit {0}
+IsAwaited (Some true) until at = Unit {0}
+IsAwaited (Some false) None at = Unit {0}
+IsAwaited (Some false) (Some until) at = until ≤ at

@@ -1,6 +1,6 @@
 ghost use Rattle.std.specs.Prelude.{◌≡◌, ◌<◌, ◌≤◌, ◌-◌, ◌^◌, true, false, length, None, Some, if◌then◌else◌, IfOk, IfSome, OnErr};
 ghost use Rattle.edges.specs.Ports.{port_named};
-ghost use Rattle.edges.specs.Waiting.{wait_end, piece_of, glancing, is_over};
+ghost use Rattle.edges.specs.Waiting.{wait_end, piece_of, glancing, is_over, last_told, has_come, IsOver, IsDue, IsDueBy, IsAwaited};
 ghost use Rattle.world.specs.Causes.{HasCause, HasDeviceCause};
 ghost use Rattle.edges.specs.WireCalls.{BeginsLife, Binds, Receives, Sends, is_from};
 ghost use Rattle.edges.specs.Waits.{HearsNone, Brings, BringsYet};
@@ -11,7 +11,7 @@ use crate::datagrams::{FRAME_LIMIT, HEAD, frame_datagram, taken};
 use crate::faults::Faults;
 use crate::loopback::{LOOPBACK, Loopback};
 use crate::moments::Moments;
-use crate::processes::{Seen, Watch, seen_by};
+use crate::processes::{Seen, Watch, is_ended, seen_by};
 use crate::salts::Salts;
 use net_types::{IfIndex, number_of};
 use rand_core::utils::NextWord;
@@ -122,7 +122,7 @@ fn nothing_came(kind: ErrorKind) -> Result<Option<usize>, Failed>
     if is_over(kind) { Ok(None) } else { Err(Failed) }
 }
 
-#[tactic(auto, using(crate::proofs::WaitSteps::nothing_heard, crate::proofs::WaitSteps::moment_told, crate::proofs::WaitSteps::both_quiet, crate::proofs::WaitSteps::none_heard, crate::proofs::WaitSteps::one_heard, crate::proofs::WaitSteps::then_brings, crate::proofs::WaitSteps::quiet_or_on))]
+#[tactic(auto, using(crate::proofs::WaitSteps::nothing_heard, crate::proofs::WaitSteps::moment_told, crate::proofs::WaitSteps::both_quiet, crate::proofs::WaitSteps::none_heard, crate::proofs::WaitSteps::one_heard, crate::proofs::WaitSteps::then_brings, crate::proofs::WaitSteps::yet_if, crate::proofs::WaitSteps::quiet_or_on, crate::proofs::WaitEnds::over_by_child, crate::proofs::WaitEnds::over_by_moment, crate::proofs::WaitEnds::over_is_due, crate::proofs::WaitEnds::on_is_before))]
 impl<L: Loopback + Drop, W: Watch + Drop> Wire<L, W> {
     /// Binds the socket, where that wasn't done before.
     fn bind(&mut self) -> Result<(), Failed>
@@ -161,6 +161,9 @@ impl<L: Loopback + Drop, W: Watch + Drop> Wire<L, W> {
 
     fn moment(&mut self) -> Result<u64, Failed>
         ensures peer { self.new.peer ≡ self.old.peer }
+        ensures watch { self.new.watch ≡ self.old.watch }
+        ensures last { IfOk result (λ at. last_told self.new.moments ≡ Some at) }
+        ensures later { IfOk result (λ at. IfSome (last_told self.old.moments) (λ last. last ≤ at)) }
         ensures kept { self.new.salts ≡ self.old.salts }
         ensures quiet { IfOk result
             (λ _. HearsNone self.old.peer (L.calls self.old.line) (L.calls self.new.line)) }
@@ -175,6 +178,7 @@ impl<L: Loopback + Drop, W: Watch + Drop> Wire<L, W> {
     fn receive(&mut self, piece: u64, datagram: &mut [u8]) -> Result<Option<usize>, Failed>
         ensures room { IfOk result (λ got. IfSome got (λ len. len ≤ length datagram.new)) }
         ensures kept { (self.new.peer ≡ self.old.peer) × (self.new.salts ≡ self.old.salts) }
+        ensures watch { (self.new.watch ≡ self.old.watch) × (self.new.moments ≡ self.old.moments) }
         ensures asked { Receives piece self.old.peer datagram.new (L.calls self.old.line)
             (L.calls self.new.line) result }
     {
@@ -190,9 +194,10 @@ impl<L: Loopback + Drop, W: Watch + Drop> Wire<L, W> {
     /// The event of a datagram that comes within so many milliseconds.
     fn heard(&mut self, piece: u64, buf: &mut [u8]) -> Result<Option<Event>, Failed>
         ensures kept { (self.new.peer ≡ self.old.peer) × (self.new.salts ≡ self.old.salts) }
+        ensures watch { (self.new.watch ≡ self.old.watch) × (self.new.moments ≡ self.old.moments) }
         ensures room { IfOk result (λ heard. IfSome heard (λ event. frame_len event ≤ length buf.new)) }
         ensures brings { IfOk result
-            (λ heard. BringsYet self.old.peer heard (length buf.old) buf.new (L.calls self.old.line)
+            (λ heard. BringsYet self.old.peer ⊥ heard (length buf.old) buf.new (L.calls self.old.line)
             (L.calls self.new.line)) }
     {
         // one byte more than the longest, so that a longer one is told from it
@@ -203,25 +208,47 @@ impl<L: Loopback + Drop, W: Watch + Drop> Wire<L, W> {
         }
     }
 
-    /// Whether a wait is over in which nothing came: a child has ended, or its moment has come.
-    fn has_ended(&mut self, end: u64) -> Result<bool, Failed>
+    /// Whether a child has ended.
+    fn sees_end(&self) -> bool
+        ensures { IfSome (W.ended self.now.watch) (λ is. result ≡ is) }
+    {
+        is_ended(seen_by(self.watch.look()))
+    }
+
+    /// Whether the moment at which a wait ends has come.
+    fn has_come(&mut self, end: u64) -> Result<bool, Failed>
         ensures peer { self.new.peer ≡ self.old.peer }
+        ensures watch { self.new.watch ≡ self.old.watch }
+        ensures come { IfOk result (λ come. come ≡ has_come end self.new.moments) }
         ensures quiet { IfOk result
             (λ _. HearsNone self.old.peer (L.calls self.old.line) (L.calls self.new.line)) }
     {
-        if seen_by(self.watch.look()) == Seen::Ended {
+        Ok(end <= self.moment()?)
+    }
+
+    /// Whether a wait is over in which nothing came: a child has ended, or its moment has come.
+    fn has_ended(&mut self, end: u64) -> Result<bool, Failed>
+        ensures peer { self.new.peer ≡ self.old.peer }
+        ensures watch { self.new.watch ≡ self.old.watch }
+        ensures over { IfOk result (λ over. IsOver (W.ended self.old.watch) end self.new.moments over) }
+        ensures quiet { IfOk result
+            (λ _. HearsNone self.old.peer (L.calls self.old.line) (L.calls self.new.line)) }
+    {
+        if self.sees_end() {
             return Ok(true);
         }
-        Ok(end <= self.moment()?)
+        self.has_come(end)
     }
 
     /// A piece of a wait, and what ends the wait: a datagram, the end of a child, or its moment.
     fn piece(&mut self, end: u64, buf: &mut [u8]) -> Result<Option<Event>, Failed>
         ensures room { IfOk result (λ heard. IfSome heard (λ event. frame_len event ≤ length buf.new)) }
         ensures peer { IfOk result (λ _. self.new.peer ≡ self.old.peer) }
+        ensures watch { IfOk result (λ _. self.new.watch ≡ self.old.watch) }
+        ensures goes_on { IfOk result (λ heard. heard ≡ None → has_come end self.new.moments ≡ false) }
         ensures brings { IfOk result
-            (λ heard. BringsYet self.old.peer heard (length buf.old) buf.new (L.calls self.old.line)
-            (L.calls self.new.line)) }
+            (λ heard. BringsYet self.old.peer (IsDue (W.ended self.old.watch) end self.new.moments) heard
+            (length buf.old) buf.new (L.calls self.old.line) (L.calls self.new.line)) }
     {
         let left = end.saturating_sub(self.moment()?);
         let piece = glancing(seen_by(self.watch.look()), piece_of(left));
@@ -235,8 +262,9 @@ impl<L: Loopback + Drop, W: Watch + Drop> Wire<L, W> {
         ensures room { IfOk result (λ event. frame_len event ≤ length buf.new) }
         ensures peer { IfOk result (λ _. self.new.peer ≡ self.old.peer) }
         ensures brings { IfOk result
-            (λ event. Brings self.old.peer (record { event = event; room = length buf.old; buffer = buf.new })
-            (L.calls self.old.line) (L.calls self.new.line)) }
+            (λ event. Brings self.old.peer (IsDueBy (W.ended self.old.watch) until self.new.moments)
+            (record { event = event; room = length buf.old; buffer = buf.new }) (L.calls self.old.line)
+            (L.calls self.new.line)) }
     {
         let end = wait_end(until, self.moment()?);
         'pieces: for _ in 0..u64::MAX {
@@ -244,14 +272,16 @@ impl<L: Loopback + Drop, W: Watch + Drop> Wire<L, W> {
                 return Ok(event);
             }
         }
-        Ok(Event::Quiet)
+        // each piece has a millisecond at least, so that no wait comes here
+        Err(Failed)
     }
 
     fn wait(&mut self, until: Option<u64>, buf: &mut [u8]) -> Result<Wake, Failed>
         ensures room { IfOk result (λ wake. frame_len wake.event ≤ length buf.new) }
         ensures brings { IfOk result
-            (λ wake. Brings self.old.peer (record { event = wake.event; room = length buf.old; buffer = buf.new })
-            (L.calls self.old.line) (L.calls self.new.line)) }
+            (λ wake. Brings self.old.peer (IsAwaited (W.ended self.old.watch) until wake.at)
+            (record { event = wake.event; room = length buf.old; buffer = buf.new }) (L.calls self.old.line)
+            (L.calls self.new.line)) }
     {
         let event = self.next_event(until, buf)?;
         let at = self.moment()?;
@@ -375,8 +405,9 @@ impl<L: Loopback + Drop, W: Watch + Drop> Link for LoopLink<L, W> {
         ensures no_begin { self.new.begins ≡ self.old.begins }
         ensures room { IfOk result (λ wake. frame_len wake.event ≤ length buf.new) }
         ensures brings { IfOk result
-            (λ wake. Brings self.old.wire.peer (record { event = wake.event; room = length buf.old; buffer = buf.new })
-            (L.calls self.old.wire.line) (L.calls self.new.wire.line)) }
+            (λ wake. Brings self.old.wire.peer (IsAwaited (W.ended self.old.wire.watch) until wake.at)
+            (record { event = wake.event; room = length buf.old; buffer = buf.new }) (L.calls self.old.wire.line)
+            (L.calls self.new.wire.line)) }
     {
         match self.wire.wait(until, buf) {
             Ok(wake) => Ok(wake),

@@ -1,7 +1,7 @@
-ghost use Rattle.std.specs.Prelude.{◌≡◌, [], ◌∷◌, List, Option};
+ghost use Rattle.std.specs.Prelude.{◌≡◌, [], ◌∷◌, Bool, IfSome, List, Option};
 ghost use Rattle.edges.specs.Asking.{Does, failure_of};
 ghost use Rattle.edges.specs.ChildCalls.{ChildCall, Started, Asked, Killed, Waited, Printed, start_of, printed};
-ghost use Rattle.edges.specs.Waiting.{seen_by};
+ghost use Rattle.edges.specs.Waiting.{is_ended, seen_by};
 
 use std::io::ErrorKind;
 use std::process::{Command, ExitStatus, Output};
@@ -42,8 +42,12 @@ pub enum Seen {
 
 /// What sees whether a child of this process has ended.
 pub trait Watch {
+    /// Whether a child has ended, where that is told.
+    ghost ended: { Self → Option Bool };
+
     /// How the child ended: nothing while it runs. `None` where there is no child.
-    fn look(&self) -> Option<Result<Option<ExitStatus>, ErrorKind>>;
+    fn look(&self) -> Option<Result<Option<ExitStatus>, ErrorKind>>
+        ensures { IfSome (ended self.now) (λ is. is_ended (seen_by result) ≡ is) };
 }
 
 /// A child that can't be asked runs on.
@@ -54,5 +58,14 @@ pub(crate) fn seen_by(asked: Option<Result<Option<ExitStatus>, ErrorKind>>) -> S
         None => Seen::NoChild,
         Some(Ok(Some(_))) => Seen::Ended,
         Some(_) => Seen::Runs,
+    }
+}
+
+pub(crate) fn is_ended(seen: Seen) -> bool
+    ensures { result ≡ is_ended seen }
+{
+    match seen {
+        Seen::NoChild | Seen::Runs => false,
+        Seen::Ended => true,
     }
 }

@@ -98,6 +98,8 @@ impl<R: Processes + AllocGlobal + Drop> Children for SystemChildren<R> {
 }
 
 impl<P: OpenProcess + Drop> Watch for ChildWatch<P> {
+    ghost ended = { λ watch. None };
+
     fn look(&self) -> Option<Result<Option<ExitStatus>, ErrorKind>> {
         let mut child = self.place.take()?;
         let asked = answer(child.try_wait());

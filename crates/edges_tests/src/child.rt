@@ -111,6 +111,10 @@ impl Children for MemChildren {
 pub(crate) struct NoWatch;
 
 impl Watch for NoWatch {
+    ghost use Rattle.std.specs.Prelude.{Some, false};
+
+    ghost ended = { λ watch. Some false };
+
     fn look(&self) -> Option<Result<Option<ExitStatus>, ErrorKind>> {
         None
     }

@@ -5,5 +5,6 @@ use Rattle.edges.proofs.links.Wire.next_event.Given as goal
 abbrev pub invariant-pieces : goal.invariant-pieces
 invariant-pieces g l = record {
   peer : l.self.peer ≡ l.fn.self.peer;
+  watch : l.self.watch ≡ l.fn.self.watch;
   quiet : HearsNone l.fn.self.peer (g.L.Loopback.calls l.fn.self.line) (g.L.Loopback.calls l.self.line);
 }

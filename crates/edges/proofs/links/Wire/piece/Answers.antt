@@ -1,7 +1,8 @@
 use Rattle.std.proofs.Common.{refl}
-use Rattle.edges.proofs.WaitSteps.{piece_brings}
+use Rattle.edges.proofs.WaitSteps.{brings_if, piece_brings}
 use Rattle.edges.proofs.links.Wire.piece.Goals as goal
 
 pub returns-in-Some-clause-brings : goal.returns-in-Some-clause-brings
 returns-in-Some-clause-brings g c =
-    piece_brings _ _ _ _ _ _ _ _ _ _ c.in_ok-moment.ensures.peer refl c.in-Some.is c.in_ok-moment.ensures.quiet c.in_ok-event.ensures.brings
+    brings_if _ _ _ _ _ _ (λ never. absurd never)
+    (piece_brings _ _ _ _ _ _ _ _ _ _ _ c.in_ok-moment.ensures.peer refl c.in-Some.is c.in_ok-moment.ensures.quiet c.in_ok-event.ensures.brings)
