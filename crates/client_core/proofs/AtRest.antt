@@ -11,11 +11,11 @@ use Rattle.client_model.specs.declared.machines.TimedMachine.TheVariants as mach
 use Rattle.client_core.specs.declared.places.Places.{Places}
 use Rattle.client_core.specs.Due.{MachineDues, dues_of, is_taken, never}
 use Rattle.timer_queue.specs.Moments.{has_come}
-use Rattle.client_core.specs.Names.{named_as}
+use Rattle.client_core.specs.Names.{is_named}
 use Rattle.client_core.specs.Places.{has}
 use Rattle.client_core.proofs.Naming.{named_at}
 use Rattle.client_core.proofs.Sets.{has_far}
-use Rattle.client_core.proofs.Waiting.{untaken}
+use Rattle.client_core.proofs.Waiting.{at_place, taken_due, untaken}
 use Rattle.world.specs.declared.wakes.Event.{Event}
 use Rattle.world.specs.declared.wakes.Event.TheVariants.{Frame, Carrier, Duplicate, Release, Rebind, Stop, Quiet, End}
 use Rattle.script_model.specs.IfaceSets.{is_in}
@@ -28,7 +28,7 @@ use Rattle.client_model.specs.IfaceTurns.{Turn, input_step, taken}
 use Rattle.iface_core.proofs.Following.{not_due}
 use Rattle.client_core.specs.declared.kept.Kept.{Kept}
 use Rattle.client_core.specs.Renewing.{Takes}
-use Rattle.client_core.specs.Resting.{IsAtRest, StaysAtRest, is_called, is_met}
+use Rattle.client_core.specs.Resting.{IsAtRest, StaysAtRest, is_busy, is_called, is_met}
 use Rattle.client_core.specs.Running.{IsRunning}
 use Rattle.client_core.proofs.Going.{map_at}
 use Rattle.client_core.proofs.InPlace.{each_of}
@@ -97,11 +97,6 @@ at_rest own turn iface none =
 
 -- ---- the places of those that have something to do
 
--- a test that would put a place among them isn't met by one that isn't there
-unmet : (a b : Bool) → (a ≡ true → b ≡ true) → b ≡ false → a ≡ false
-unmet true b puts out = let never : true ≡ false = sym (puts refl) ∙ out in absurd cc
-unmet false b puts out = refl
-
 come_due : (due : Option ℕ) (at : ℕ) → is_due due at ≡ has_come due at
 come_due None at = refl
 come_due (Some due) at = refl
@@ -110,6 +105,34 @@ later_both : (a b : Option ℕ) (at : ℕ) → is_due a at ≡ false → is_due 
 later_both None b at first second = second
 later_both (Some a) None at first second = first
 later_both (Some a) (Some b) at first second = grind (arith, nat_tests, first, second)
+
+-- the earlier of two moments has come where one of them has
+first_due : (a b : Option ℕ) (at : ℕ) → is_due a at ≡ true → is_due (earlier a b) at ≡ true
+first_due None b at due = let never : false ≡ true = due in absurd cc
+first_due (Some a) None at due = due
+first_due (Some a) (Some b) at due = grind (arith, nat_tests, due)
+
+second_due : (a b : Option ℕ) (at : ℕ) → is_due b at ≡ true → is_due (earlier a b) at ≡ true
+second_due None b at due = due
+second_due (Some a) None at due = let never : false ≡ true = due in absurd cc
+second_due (Some a) (Some b) at due = grind (arith, nat_tests, due)
+
+one_due : (iface : Iface) (at : ℕ) (machine : TimedMachine) → is_due (machine_due machine iface) at ≡ true → is_due (iface_due iface) at ≡ true
+one_due iface at machine.Dhcp4 due =
+    first_due (earlier (machine_due machine.Dhcp4 iface) (machine_due machine.LinkLocal iface)) (machine_due machine.Dhcp6 iface) at
+    (first_due (machine_due machine.Dhcp4 iface) (machine_due machine.LinkLocal iface) at due)
+one_due iface at machine.LinkLocal due =
+    first_due (earlier (machine_due machine.Dhcp4 iface) (machine_due machine.LinkLocal iface)) (machine_due machine.Dhcp6 iface) at
+    (second_due (machine_due machine.Dhcp4 iface) (machine_due machine.LinkLocal iface) at due)
+one_due iface at machine.Dhcp6 due =
+    second_due (earlier (machine_due machine.Dhcp4 iface) (machine_due machine.LinkLocal iface)) (machine_due machine.Dhcp6 iface) at due
+
+none_due : (iface : Iface) (at : ℕ) → ((machine : TimedMachine) → has_come (dues_of iface machine) at ≡ false) → is_due (iface_due iface) at ≡ false
+none_due iface at none =
+    later_both (earlier (machine_due machine.Dhcp4 iface) (machine_due machine.LinkLocal iface)) (machine_due machine.Dhcp6 iface) at
+    (later_both (machine_due machine.Dhcp4 iface) (machine_due machine.LinkLocal iface) at
+    (come_due (machine_due machine.Dhcp4 iface) at ∙ none machine.Dhcp4) (come_due (machine_due machine.LinkLocal iface) at ∙ none machine.LinkLocal))
+    (come_due (machine_due machine.Dhcp6 iface) at ∙ none machine.Dhcp6)
 
 -- an interface that isn't asked in a turn
 pub record IsIdle (turn : Turn) (iface : Iface) : Type 0 where
@@ -125,43 +148,56 @@ module _ (turn : Turn) (ifaces : List Iface) (kept after : Kept) (places : Place
       by (inl near) = near
       by (inr far) = let never : true ≡ false = sym (has_far places place far) ∙ out in absurd cc
 
-  module _ (place : ℕ) (d : Iface) (lt : place < length ifaces) (out : has places place ≡ false) where
+  module _ (place : ℕ) (d : Iface) (lt : place < length ifaces) (near : place < 64) where
     abbrev iface : Iface
     iface = get_or ifaces place d
 
-    near : place < 64
-    near = is_near place out
+    abbrev is_here : Bool
+    is_here = is_taken turn.at kept.dues place
 
-    -- its moments haven't come
-    none_come : (machine : TimedMachine) → has_come (dues_of iface machine) turn.at ≡ false
-    none_come machine =
-        ap (λ (dues : MachineDues). has_come (dues machine) turn.at)
-        (sym (get_or-take 64 (map dues_of ifaces) place never near ∙ map_at dues_of ifaces place d never lt))
-        ∙ untaken turn.at (map dues_of ifaces) kept.dues place running.due
-        (unmet (is_taken turn.at kept.dues place) (has places place) (takes.due place near) out) machine
+    moments_here : (machine : TimedMachine) → at_place (map dues_of ifaces) place machine ≡ dues_of iface machine
+    moments_here machine =
+        ap (λ (dues : MachineDues). dues machine) (get_or-take 64 (map dues_of ifaces) place never near ∙ map_at dues_of ifaces place d never lt)
 
-    not_due_now : is_due (iface_due iface) turn.at ≡ false
-    not_due_now =
-        later_both (earlier (machine_due machine.Dhcp4 iface) (machine_due machine.LinkLocal iface)) (machine_due machine.Dhcp6 iface) turn.at
-        (later_both (machine_due machine.Dhcp4 iface) (machine_due machine.LinkLocal iface) turn.at
-        (come_due (machine_due machine.Dhcp4 iface) turn.at ∙ none_come machine.Dhcp4)
-        (come_due (machine_due machine.LinkLocal iface) turn.at ∙ none_come machine.LinkLocal))
-        (come_due (machine_due machine.Dhcp6 iface) turn.at ∙ none_come machine.Dhcp6)
+    -- where it isn't taken, its moments haven't come
+    none_come : is_here ≡ false → (machine : TimedMachine) → has_come (dues_of iface machine) turn.at ≡ false
+    none_come out machine =
+        ap (λ (due : Option ℕ). has_come due turn.at) (sym (moments_here machine))
+        ∙ untaken turn.at (map dues_of ifaces) kept.dues place running.due out machine
 
-    -- nothing comes to it from outside
-    named_here : has (named_as kept.named (index_of iface)) place ≡ true
+    -- where it is, one of them has
+    some_come : is_here ≡ true → is_due (iface_due iface) turn.at ≡ true
+    some_come taken =
+        let some = taken_due turn.at (map dues_of ifaces) kept.dues place running.due taken in
+        one_due iface turn.at some.0
+        (come_due (machine_due some.0 iface) turn.at ∙ ap (λ (due : Option ℕ). has_come due turn.at) (sym (moments_here some.0)) ∙ some.1)
+
+    due_here : is_here ≡ is_due (iface_due iface) turn.at
+    due_here = by is_here refl
+      where
+        by : (b : Bool) → is_here ≡ b → is_here ≡ is_due (iface_due iface) turn.at
+        by true taken = taken ∙ sym (some_come taken)
+        by false out = out ∙ sym (none_due iface turn.at (none_come out))
+
+    named_here : is_named (map index_of ifaces) place (index_of iface) ≡ true
     named_here =
-        running.named (index_of iface) place near
-        ∙ named_at (map index_of ifaces) place (index_of iface) (subst (λ (n : ℕ). place < n) (sym (length-map ifaces index_of)) lt)
+        named_at (map index_of ifaces) place (index_of iface) (subst (λ (n : ℕ). place < n) (sym (length-map ifaces index_of)) lt)
         ∙ eq-eqb (get_or (map index_of ifaces) place 0) (index_of iface) (map_at index_of ifaces place d 0 lt)
 
-    uncalled : is_called (index_of iface) turn ≡ false
-    uncalled =
-        unmet (is_called (index_of iface) turn) (has places place)
-        (λ (called : _). takes.called (index_of iface) place (each_of FitsIface ifaces place d lt running.fit).managed.index near called named_here) out
+    has_here : has places place ≡ (is_here || is_called (index_of iface) turn)
+    has_here =
+        takes.busy (map index_of ifaces) (index_of iface) place running.named (each_of FitsIface ifaces place d lt running.fit).managed.index near
+        named_here
 
-    pub is_idle : IsIdle turn (get_or ifaces place d)
-    is_idle = record {
-      rests = (λ i. not_due_now i || uncalled i);
-      due = none_come;
-    }
+    -- the set has the places of those that have something to do
+    pub busy_here : has places place ≡ is_busy turn (get_or ifaces place d)
+    busy_here = has_here ∙ ap (λ (due : Bool). due || is_called (index_of iface) turn) due_here
+
+    untaken_here : has places place ≡ false → is_here ≡ false
+    untaken_here out = (neither is_here (is_called (index_of iface) turn) (sym has_here ∙ out)).0
+
+  pub is_idle : (place : ℕ) (d : Iface) → place < length ifaces → has places place ≡ false → IsIdle turn (get_or ifaces place d)
+  is_idle place d lt out = record {
+    rests = sym (busy_here place d lt (is_near place out)) ∙ out;
+    due = none_come place d lt (is_near place out) (untaken_here place d lt (is_near place out) out);
+  }

@@ -1,5 +1,5 @@
 -- The steps of all interfaces make the client's.
-use Rattle.std.proofs.Common.{◌≡◌, ◌++◌, List, [], ◌∷◌, map, length, refl, sym, ap, subst, ◌∙◌}
+use Rattle.std.proofs.Common.{ℕ, ◌≡◌, ◌≤◌, ◌*◌, ◌++◌, List, [], ◌∷◌, map, length, refl, sym, ap, subst, ◌∙◌}
 use Rattle.std.specs.Prelude.{flat_map}
 use Rattle.std.specs.List.{AllByRecursion}
 use Rattle.std.specs.Global.{Vec}
@@ -20,6 +20,7 @@ use Rattle.host_tables.specs.declared.union.Diff.{Diff}
 use Rattle.iface_core.specs.Outcomes.{Asked}
 use Rattle.client_core.specs.declared.effects.Touched.{Touched}
 use Rattle.client_core.specs.Leading.{Leads}
+use Rattle.client_core.specs.Resting.{busy_in}
 use Rattle.client_core.specs.Stepping.{GoAll, Steps, IsOnInterface}
 use Rattle.client_core.specs.Touched.{KeepsUntouched}
 use Rattle.client_core.proofs.Fit.{steps_on}
@@ -76,6 +77,14 @@ pub leads_in_place : (core : Client) (own : List Mac) (turn : Turn) (rows : Diff
 leads_in_place core own turn rows before old new asked asking view all same leads =
     subst (λ (ys : List Iface). Leads rows (wanted_rows core.ifaces) (wanted_rows ys)) (sym (placed own turn before old new asked asking all same))
     (subst (λ (xs : List Iface). Leads rows (wanted_rows xs) (wanted_rows new)) (same ∙ view) leads)
+
+-- six questions of each that has something to do
+pub looks_in_place : (core : Client) (turn : Turn) (before : Vec Iface) (old : List Iface) (turns looks : ℕ) → before.items ≡ core.ifaces
+    → old ≡ before.items → (length old ≤ 64 → looks ≡ 6 * turns) → (length old ≤ 64 → turns ≡ busy_in turn old)
+    → length core.ifaces ≤ 64 → looks ≡ 6 * busy_in turn core.ifaces
+looks_in_place core turn before old turns looks view same six had few =
+    let there : length old ≤ 64 = subst (λ (xs : List Iface). length xs ≤ 64) (sym (same ∙ view)) few in
+    six there ∙ ap (λ (n : ℕ). 6 * n) (had there ∙ ap (busy_in turn) (same ∙ view))
 
 -- the jobs of a turn are those of its interfaces
 pub turned_jobs : (core : Client) (own : List Mac) (turn : Turn) (ifaces : List Iface) (jobs before : List Job) → record { own = own; ifaces = ifaces } ≡ core

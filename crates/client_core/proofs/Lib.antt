@@ -1,4 +1,6 @@
 pub mod AtRest
+pub mod Calling
+pub mod Counting
 pub mod Destinations
 pub mod Earliest
 pub mod Fit

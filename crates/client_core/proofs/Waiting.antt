@@ -12,7 +12,7 @@ use Rattle.client_core.specs.Due.{MachineDues, never, key_due, number_of, place_
 use Rattle.timer_queue.specs.Moments.{Moments, has_come, due_after, due_by}
 use Rattle.counted_search.specs.Ordered.{has_key}
 use Rattle.timer_queue.proofs.MomentLaws.{get_after, keys_due}
-use Rattle.timer_queue.proofs.Tables.{same_key}
+use Rattle.timer_queue.proofs.Tables.{key_itself, same_key}
 use Rattle.client_core.proofs.Numbers.{placed, ranked}
 
 -- ---- the moment of a key
@@ -186,6 +186,35 @@ untaken at dues moments place are none machine =
     ap (λ (due : Option ℕ). has_come due at) (sym (are key ∙ (λ i. at_place dues (placed place machine i) (ranked place machine i))))
     ∙ sym (keys_due at moments key)
     ∙ untaken_key keys key (subst (λ (here : ℕ). list_any (λ (k : ℕ). nat_eq (place_in k) here) keys ≡ false) (sym (placed place machine)) none)
+
+or_true : (b : Bool) → (b || true) ≡ true
+or_true true = refl
+or_true false = refl
+
+some_key : (keys : List ℕ) (place : ℕ) → list_any (λ (k : ℕ). nat_eq (place_in k) place) keys ≡ true
+    → (key : ℕ) × (place_in key ≡ place) × (has_key nat_cmp keys key ≡ true)
+some_key [] place some = let never : false ≡ true = some in absurd cc
+some_key (k ∷ keys) place some = by (nat_eq (place_in k) place) refl some (some_key keys place)
+  where
+    by : (b : Bool) → nat_eq (place_in k) place ≡ b → (b || list_any (λ (q : ℕ). nat_eq (place_in q) place) keys) ≡ true
+        → (list_any (λ (q : ℕ). nat_eq (place_in q) place) keys ≡ true → (key : ℕ) × (place_in key ≡ place) × (has_key nat_cmp keys key ≡ true))
+        → (key : ℕ) × (place_in key ≡ place) × (has_key nat_cmp (k ∷ keys) key ≡ true)
+    by true e some rest = (k, eqb-true (place_in k) place e, ap (λ (b : Bool). b || has_key nat_cmp keys k) (key_itself k))
+    by false e some rest =
+        let further = rest some in
+        (further.0, further.1, ap (λ (b : Bool). eq_by_cmp nat_cmp further.0 k || b) further.2 ∙ or_true (eq_by_cmp nat_cmp further.0 k))
+
+-- of one that was taken a machine is due
+pub taken_due : (at : ℕ) (dues : List MachineDues) (moments : Moments) (place : ℕ) → AreMoments dues moments → is_taken at moments place ≡ true
+    → (machine : TimedMachine) × (has_come (at_place dues place machine) at ≡ true)
+taken_due at dues moments place are taken =
+    let found = some_key (finite.keys (due_by at moments)) place taken in
+    let key : ℕ = found.0 in
+    let machine : TimedMachine = machine_in key in (
+      machine,
+      ap (λ (here : ℕ). has_come (at_place dues here machine) at) (sym found.1) ∙ ap (λ (due : Option ℕ). has_come due at) (sym (are key))
+          ∙ sym (keys_due at moments key) ∙ found.2,
+    )
 
 -- ---- the moments while they are put, one interface after another
 

@@ -267,7 +267,7 @@ module _ (own : List Mac) (turn : Turn) (xs : List Iface) where
 
   module _ {place : ℕ} {ys : List Iface} {kept : Kept} {walk : Walk} {first asked : Asked} {made all : List Job} (past : length ys ≤ place)
       (walked : Walked place ys kept walk first asked made all) where
-    over : length xs ≤ place
+    pub over : length xs ≤ place
     over = subst (λ (n : ℕ). n ≤ place) (as_long go xs ys place walked.go_on) past
 
     seen : take place xs ≡ xs

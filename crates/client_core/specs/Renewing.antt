@@ -1,9 +1,8 @@
 -- What is kept of an interface is taken for a turn, and brought up to date after it.
-use Rattle.std.specs.Prelude.{◌≡◌, ◌<◌, ℕ, ◌+◌, ◌*◌, true, [], length, slice_index_or, slice_set}
+use Rattle.std.specs.Prelude.{◌≡◌, ◌<◌, ℕ, ◌+◌, ◌*◌, ◌||◌, [], length, slice_index_or, slice_set}
 use Rattle.resolver_text.specs.Parts.{parts_content}
 use Rattle.client_core.specs.Due.{PutsMoments, dues_of, is_taken}
 use Rattle.timer_queue.specs.Moments.{due_after}
-use Rattle.client_core.specs.Places.{has}
 use Rattle.client_core.specs.declared.places.Places.{Places}
 use Rattle.client_model.specs.declared.interfaces.Iface.{Iface}
 use Rattle.client_model.specs.IfaceTurns.{Turn}
@@ -25,10 +24,9 @@ pub record IsAt (place : ℕ) (iface : Iface) (kept : Kept) : Type 0 where
   pub rows : slice_index_or kept.tables place [] ≡ iface_rows iface
   pub told : told_with place iface (parts_content kept.parts.items) ≡ parts_content kept.parts.items
 
--- the interfaces that are due or called are at these places, and what is due is taken out
+-- the interfaces that are due or called are at these places, and no others, and what is due is taken out
 pub record Takes (turn : Turn) (places : Places) (old new : Kept) : Type 0 where
-  pub due : (place : ℕ) → place < 64 → is_taken turn.at old.dues place ≡ true → has places place ≡ true
-  pub called : Finds (λ index. is_called index turn) old.named places
+  pub busy : Finds (λ place index. is_taken turn.at old.dues place || is_called index turn) old.named places
   pub rows : new.tables ≡ old.tables
   pub told : parts_content new.parts.items ≡ parts_content old.parts.items
   pub left : new.dues ≡ due_after turn.at old.dues

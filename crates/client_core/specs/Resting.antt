@@ -1,10 +1,12 @@
--- Which interfaces have nothing to do in a turn: it changes nothing of them, and they say nothing.
+-- Which interfaces have something to do in a turn. The others have nothing: it changes nothing of them, and they say
+-- nothing.
 use Rattle.std.specs.Prelude.{◌≡◌, ℕ, ◌<◌, Bool, true, false, ◌==◌, ◌||◌, List, Option}
+use Rattle.std.specs.List.{count_by}
 use Rattle.net_types.specs.declared.address.Mac.{Mac}
 use Rattle.machine.specs.Moment.{is_due}
 use Rattle.client_core.specs.declared.named.Named.{Named}
 use Rattle.client_core.specs.declared.places.Places.{Places}
-use Rattle.client_core.specs.Names.{named_as}
+use Rattle.client_core.specs.Names.{AreNamed, is_named}
 use Rattle.client_core.specs.Places.{has}
 use Rattle.world.specs.Rows.{IsInterface}
 use Rattle.world.specs.declared.wakes.Event.{Event}
@@ -35,14 +37,23 @@ is_called index turn = is_in turn.unsent index || is_met index turn.event
 abbrev pub has_work : (due : Option ℕ) → (index : ℕ) → Turn → Bool
 has_work due index turn = is_due due turn.at || is_called index turn
 
--- the interfaces that are asked for are at these places, where they have one below 64
-abbrev pub Finds : (asks : ℕ → Bool) → Named → Places → Type 0
+-- whether an interface has something to do in a turn
+abbrev pub is_busy : Turn → Iface → Bool
+is_busy turn iface = has_work (iface_due iface) (index_of iface) turn
+
+-- how many interfaces have something to do in it
+abbrev pub busy_in : Turn → List Iface → ℕ
+busy_in turn = count_by (is_busy turn)
+
+-- of the interfaces with a place below 64, those that are asked for, by place and index, are at these places, and no
+-- others
+abbrev pub Finds : (asks : (place index : ℕ) → Bool) → Named → Places → Type 0
 Finds asks named places =
-    (index place : ℕ) → IsInterface index → place < 64 → asks index ≡ true → has (named_as named index) place ≡ true
-    → has places place ≡ true
+    (indices : List ℕ) (index place : ℕ) → AreNamed indices named → IsInterface index → place < 64
+    → is_named indices place index ≡ true → has places place ≡ asks place index
 
 abbrev pub IsAtRest : Turn → Iface → Type 0
-IsAtRest turn iface = has_work (iface_due iface) (index_of iface) turn ≡ false
+IsAtRest turn iface = is_busy turn iface ≡ false
 
 -- an interface at rest stays as it is, says nothing, and has no news
 abbrev pub StaysAtRest : List Mac → Turn → Iface → Type 0

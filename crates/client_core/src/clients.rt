@@ -1,4 +1,4 @@
-ghost use Rattle.std.specs.Prelude.{◌≡◌, ◌++◌, [], IfOk, IfSome, map, option_map};
+ghost use Rattle.std.specs.Prelude.{◌≡◌, ◌≤◌, ◌*◌, ◌++◌, [], length, IfOk, IfSome, map, option_map};
 ghost use Rattle.std.specs.List.{AllByRecursion};
 ghost use Rattle.std.specs.String.{string_bytes};
 ghost use Rattle.net_types.specs.Moments.{IsMoment};
@@ -19,6 +19,7 @@ ghost use Rattle.iface_core.specs.Beginnings.{beginning_of};
 ghost use Rattle.iface_core.specs.Inputs.{turn_of};
 ghost use Rattle.iface_core.specs.Outcomes.{asked_in, sends_in};
 ghost use Rattle.client_core.specs.Leading.{Leads};
+ghost use Rattle.client_core.specs.Resting.{busy_in};
 ghost use Rattle.client_core.specs.Running.{IsRunning};
 ghost use Rattle.client_core.specs.Stepping.{Steps, GoAll, IsOnInterface};
 ghost use Rattle.client_core.specs.Touched.{KeepsUntouched};
@@ -48,8 +49,6 @@ pub struct Core {
     ifaces: Vec<Iface>,
     /// In a place of its own, since its tables of timers are large where the client is handed on.
     kept: Box<Kept>,
-    looks: u64,
-    changes: u64,
 }
 
 impl Model for Core {
@@ -137,8 +136,6 @@ pub fn core_open(
         own,
         ifaces,
         kept,
-        looks: 0,
-        changes: 0,
     };
     Ok(Opened { core, outs, jobs })
 }
@@ -155,9 +152,14 @@ pub struct Stepped {
     pub touched: Touched,
     /// How the rows changed that the host is to hold.
     pub rows: Diff,
+    /// How often a machine was asked when it is due.
+    pub looks: u64,
+    /// How many of the interfaces brought other rows.
+    pub changes: u64,
 }
 
-/// One turn: what comes of it, and what the outside is asked.
+/// One turn: what comes of it, and what the outside is asked. Of up to 64 interfaces, `looks` is six times how many
+/// have something to do.
 pub fn step(core: Core, turn: Turn<'_>) -> Result<Stepped, NoMemory>
     requires { IsMoment turn.at }
     ensures steps { IfOk result
@@ -166,14 +168,14 @@ pub fn step(core: Core, turn: Turn<'_>) -> Result<Stepped, NoMemory>
     ensures on_interfaces { IfOk result (λ done. AllByRecursion IsOnInterface (sends_in done.outs)) }
     ensures untouched { IfOk result (λ done. KeepsUntouched done.touched core.ifaces done.core.ifaces) }
     ensures leads { IfOk result (λ done. Leads done.rows (rows_of core) (rows_of done.core)) }
+    ensures looks { IfOk result
+        (λ done. length core.ifaces ≤ 64 → done.looks ≡ 6 * busy_in (turn_of turn.entry) core.ifaces) }
 {
     let Core {
         alloc,
         own,
         mut ifaces,
         mut kept,
-        looks: _,
-        changes: _,
     } = core;
     let mut outs = Outs::new(alloc);
     let mut jobs = Vec::new(alloc);
@@ -183,8 +185,6 @@ pub fn step(core: Core, turn: Turn<'_>) -> Result<Stepped, NoMemory>
         own,
         ifaces,
         kept,
-        looks: turned.looks,
-        changes: turned.changes,
     };
     Ok(Stepped {
         core,
@@ -192,6 +192,8 @@ pub fn step(core: Core, turn: Turn<'_>) -> Result<Stepped, NoMemory>
         jobs,
         touched: turned.touched,
         rows: turned.rows,
+        looks: turned.looks,
+        changes: turned.changes,
     })
 }
 
@@ -255,14 +257,4 @@ pub fn core_due(core: &Core) -> Option<u64>
     ensures { result ≡ client_due core.now.ifaces }
 {
     first_due(&core.kept.dues, &core.ifaces)
-}
-
-/// How often interfaces were asked in the last step when they are due. Those that had nothing to do weren't asked.
-pub fn looks(core: &Core) -> u64 {
-    core.looks
-}
-
-/// How many interfaces brought other rows in the last step than before it.
-pub fn changes(core: &Core) -> u64 {
-    core.changes
 }

@@ -86,8 +86,8 @@ impl Kept {
         due.or(called_places(&self.named, turn))
     }
 
-    /// Brings what is kept of the interface at a place up to date. How often its machines are asked when they are due is
-    /// counted.
+    /// Brings what is kept of the interface at a place up to date. How often its machines are asked when they are due
+    /// is counted.
     pub fn renew(
         &mut self,
         alloc: Global,

@@ -23,8 +23,7 @@ mod told_parts;
 mod turning;
 
 pub use clients::{
-    Core, Opened, Stepped, changes, core_due, core_open, ifaces, kept4, kept6, looks,
-    resolver_wanted, rows, step,
+    Core, Opened, Stepped, core_due, core_open, ifaces, kept4, kept6, resolver_wanted, rows, step,
 };
 pub use effects::{Resolver, Touched};
 pub use host_tables::Diff;

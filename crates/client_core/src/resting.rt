@@ -11,8 +11,9 @@ use iface_core::{Turn, TurnInput, contains};
 use net_types::IfIndex;
 
 /// The places of the interfaces to which an input brings something.
+#[tactic(auto, using(crate::proofs::Calling::named_there))]
 fn met_places(named: &Named, input: TurnInput<'_>) -> Places
-    ensures { Finds (λ index. is_met index (event_of input.entry)) named.now result }
+    ensures { Finds (λ _ index. is_met index (event_of input.entry)) named.now result }
 {
     match input {
         TurnInput::Frame { iface, .. } => named.places(iface),
@@ -27,7 +28,7 @@ fn met_places(named: &Named, input: TurnInput<'_>) -> Places
 
 /// The places of the interfaces of which a frame couldn't be sent in the turn before.
 fn unsent_places(named: &Named, unsent: u64) -> Places
-    ensures { Finds (is_in unsent) named.now result }
+    ensures { Finds (λ _. is_in unsent) named.now result }
 {
     let mut places = Places::none();
     if unsent == 0 {
@@ -45,7 +46,7 @@ fn unsent_places(named: &Named, unsent: u64) -> Places
 /// The places of the interfaces to which something comes from outside: the input, or word that a frame of their own
 /// couldn't be sent.
 pub fn called_places(named: &Named, turn: &Turn<'_>) -> Places
-    ensures { Finds (λ index. is_called index (turn_of turn.now)) named.now result }
+    ensures { Finds (λ _ index. is_called index (turn_of turn.now)) named.now result }
 {
     unsent_places(named, turn.unsent).or(met_places(named, turn.input))
 }

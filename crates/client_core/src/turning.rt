@@ -12,6 +12,7 @@ ghost use Rattle.iface_core.specs.Looks.{looked};
 ghost use Rattle.iface_core.specs.Outcomes.{Goes, asked_in};
 ghost use Rattle.client_core.specs.declared.effects.Resolver.TheVariants.{Same};
 ghost use Rattle.client_core.specs.Leading.{Leads, LeadsOn};
+ghost use Rattle.client_core.specs.Resting.{busy_in};
 ghost use Rattle.client_core.specs.Running.{IsRunning};
 ghost use Rattle.client_core.specs.Stepping.{GoAll};
 ghost use Rattle.client_core.specs.Touched.{KeepsUntouched, LeavesBut, either, may_keep, noted};
@@ -139,8 +140,8 @@ impl Walk {
 }
 
 /// A turn of each interface that has something to do, in order, after which what is kept of it is up to date and what
-/// it told hooks has become jobs. Of up to 64 interfaces, each that has a turn is asked six times when it is due: each
-/// of its machines once in the turn, and once after it.
+/// it told hooks has become jobs. Of up to 64 interfaces, `turns` is how many have something to do, and `looks` six
+/// times that.
 pub fn turn_all(
     ifaces: &mut [Iface],
     kept: &mut Kept,
@@ -163,7 +164,9 @@ pub fn turn_all(
         ++ jobs_along [] ifaces.old (map (iface_turned own.now (turn_of turn.now)) ifaces.old)) }
     ensures leads { IfOk result (λ turned. Leads turned.rows (wanted_rows ifaces.old) (wanted_rows ifaces.new)) }
     ensures looks { IfOk result (λ turned. length ifaces.old ≤ 64 → turned.looks ≡ 6 * turned.turns) }
-    ensures turns { IfOk result (λ turned. turned.turns ≤ length ifaces.old) }
+    ensures turns { IfOk result
+        (λ turned. length ifaces.old ≤ 64 → turned.turns ≡ busy_in (turn_of turn.now) ifaces.old) }
+    ensures at_most { IfOk result (λ turned. turned.turns ≤ length ifaces.old) }
 {
     let alloc = *jobs.allocator();
     let busy = kept.take(turn);

@@ -4,9 +4,7 @@ ghost use Rattle.client_model.specs.Fitting.{AreBeginnings, FitsBeginning};
 ghost use Rattle.iface_core.specs.Beginnings.{beginning_of};
 
 use crate::interfaces::{DUID, managed};
-use client_core::{
-    Beginning, Core, Turn, TurnInput, changes, core_due, core_open, looks, rows, step,
-};
+use client_core::{Beginning, Core, Turn, TurnInput, core_due, core_open, rows, step};
 use net_types::{IfIndex, NoMemory};
 use std::alloc::Global;
 use std::test::*;
@@ -72,11 +70,11 @@ fn a_turn_asks_those_alone_that_are_due(rt: HostRuntime) -> Result<(), Fail> {
     assert_eq!(rt; core_due(&core), Some(1001));
     let stepped = step(core, quiet(1001))?;
     assert_eq!(rt; stepped.outs.sends.len(), 1);
-    assert_eq!(rt; looks(&stepped.core), 6);
-    assert_eq!(rt; changes(&stepped.core), 0);
+    assert_eq!(rt; stepped.looks, 6);
+    assert_eq!(rt; stepped.changes, 0);
     let stepped = step(stepped.core, quiet(1002))?;
-    assert_eq!(rt; looks(&stepped.core), 0);
-    assert_eq!(rt; changes(&stepped.core), 0);
+    assert_eq!(rt; stepped.looks, 0);
+    assert_eq!(rt; stepped.changes, 0);
     assert!(rt; stepped.rows.gone.is_empty());
     assert!(rt; stepped.rows.come.is_empty());
     Ok(())
@@ -94,8 +92,8 @@ fn a_turn_asks_those_alone_that_are_called(rt: HostRuntime) -> Result<(), Fail> 
         ..quiet(1002)
     };
     let stepped = step(stepped.core, turn)?;
-    assert_eq!(rt; looks(&stepped.core), 6);
-    assert_eq!(rt; changes(&stepped.core), 1);
+    assert_eq!(rt; stepped.looks, 6);
+    assert_eq!(rt; stepped.changes, 1);
     assert!(rt; stepped.rows.gone.is_empty());
     assert!(rt; !stepped.rows.come.is_empty());
     let turn = Turn {
@@ -103,9 +101,9 @@ fn a_turn_asks_those_alone_that_are_called(rt: HostRuntime) -> Result<(), Fail> 
         ..quiet(1003)
     };
     let stepped = step(stepped.core, turn)?;
-    assert_eq!(rt; looks(&stepped.core), 18);
+    assert_eq!(rt; stepped.looks, 18);
     let stepped = step(stepped.core, quiet(1003))?;
-    assert_eq!(rt; looks(&stepped.core), 0);
+    assert_eq!(rt; stepped.looks, 0);
     Ok(())
 }
 
@@ -116,8 +114,8 @@ fn a_stop_asks_all(rt: HostRuntime) -> Result<(), Fail> {
         ..quiet(1001)
     };
     let stepped = step(core(rt.alloc())?, turn)?;
-    assert_eq!(rt; looks(&stepped.core), 384);
-    assert_eq!(rt; changes(&stepped.core), 1);
+    assert_eq!(rt; stepped.looks, 384);
+    assert_eq!(rt; stepped.changes, 1);
     assert!(rt; rows(&stepped.core).is_empty());
     Ok(())
 }

@@ -59,7 +59,8 @@ pub fn iface_tick(
     }
 }
 
-/// Ticks a machine where it is due, for which it is asked once; where it isn't, a tick would change nothing and say nothing.
+/// Ticks a machine where it is due, for which it is asked once; where it isn't, a tick would change nothing and say
+/// nothing.
 fn tick_if_due(
     iface: &mut Iface,
     machine: TimedMachine,

@@ -12,7 +12,7 @@ use Rattle.iface_core.specs.Inputs.{turn_of}
 use Rattle.iface_core.specs.Outcomes.{asked_in}
 use Rattle.client_core.specs.Running.{IsRunning}
 use Rattle.client_core.specs.Stepping.{GoAll}
-use Rattle.client_core.proofs.Joined.{joined_on, in_place, leads_in_place, placed, turned_steps, untouched_in_place, turned_jobs}
+use Rattle.client_core.proofs.Joined.{joined_on, in_place, leads_in_place, looks_in_place, placed, turned_steps, untouched_in_place, turned_jobs}
 use Rattle.client_core.proofs.clients.step.Goals as goal
 
 pub turn_all-requires-clause-running : goal.turn_all-requires-clause-running
@@ -70,6 +70,11 @@ returns-clause-leads c =
     leads_in_place c.args.core c.deref.result.now turn c.in_ok-turned.turned.rows c.core.inside.ifaces c.deref_mut.result.now c.turn_all.new.ifaces
     (asked_in c.new-outs.result) (asked_in c.turn_all.new.outs) (ap (λ (client : Client). client.ifaces) c.core.view_is)
     c.in_ok-turned.ensures.goes c.deref_mut.ensures.value c.in_ok-turned.ensures.leads
+
+pub returns-clause-looks : goal.returns-clause-looks
+returns-clause-looks c =
+    looks_in_place c.args.core (turn_of c.args.turn) c.core.inside.ifaces c.deref_mut.result.now c.in_ok-turned.turned.turns c.in_ok-turned.turned.looks
+    (ap (λ (client : Client). client.ifaces) c.core.view_is) c.deref_mut.ensures.value c.in_ok-turned.ensures.looks c.in_ok-turned.ensures.turns
 
 pub returns-clause-jobs : goal.returns-clause-jobs
 returns-clause-jobs c =

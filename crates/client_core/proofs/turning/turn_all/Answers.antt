@@ -1,4 +1,4 @@
-use Rattle.std.proofs.Common.{ℕ, ◌≡◌, ◌≤◌, ◌+◌, List, ◌++◌, length, get_or, set, map, refl, sym, ap, subst, ◌∙◌, arith}
+use Rattle.std.proofs.Common.{ℕ, ◌≡◌, ◌<◌, ◌≤◌, ◌+◌, ◌*◌, List, ◌++◌, length, get_or, set, map, sym, ap, subst, ◌∙◌, arith}
 use Rattle.std.proofs.lemmas.List.{length-set}
 use Rattle.world.specs.HookCalls.{job_of}
 use Rattle.settings.specs.Fitting.{FitsManaged}
@@ -8,11 +8,12 @@ use Rattle.iface_core.specs.Inputs.{turn_of}
 use Rattle.iface_core.specs.Outcomes.{asked_in}
 use Rattle.client_core.specs.Renewing.{IsAt, Renews}
 use Rattle.client_core.specs.Touched.{may_keep, noted}
-use Rattle.client_core.proofs.AtRest.{is_idle, is_near}
+use Rattle.client_core.proofs.AtRest.{busy_here, is_idle, is_near}
+use Rattle.client_core.proofs.Counting.{counted_all, counted_first, counted_more}
 use Rattle.client_core.proofs.Going.{turned}
 use Rattle.client_core.proofs.InPlace.{as_long}
 use Rattle.client_core.proofs.Looking.{six_more}
-use Rattle.client_core.proofs.Walks.{begun, skipped, has_place, put_there, fits_after, all_fit, is_there, one_more, done_goes, done_running, done_untouched, done_jobs, done_leads}
+use Rattle.client_core.proofs.Walks.{begun, skipped, has_place, put_there, fits_after, all_fit, is_there, one_more, over, done_goes, done_running, done_untouched, done_jobs, done_leads}
 use Rattle.client_core.proofs.turning.turn_all.Goals as goal
 
 pub places-init : goal.places-init
@@ -20,7 +21,13 @@ places-init c =
     let turn : Turn = turn_of c.args.turn.now in
     let xs : List Iface = c.args.ifaces.now in (
       omega arith,
-      λ (few : _). refl,
+      λ (few : _).
+          counted_first turn xs c.take-busy.result
+          (λ (place : ℕ) (d : Iface) (lt : place < length xs).
+          busy_here turn xs c.args.kept.now c.take-busy.new.self c.take-busy.result c.requires.running c.take-busy.ensures place d lt
+          (omega (arith, lt, few)))
+          c.next_from-place.result c.next_from-place.ensures.from c.next_from-place.ensures.end c.next_from-place.ensures.skips
+          c.next_from-place.ensures.found,
       skipped c.args.own.now turn xs _ _ _ _ _ _ _ c.take-busy.result
           (is_near turn xs c.args.kept.now c.take-busy.new.self c.take-busy.result c.requires.running c.take-busy.ensures)
           (is_idle turn xs c.args.kept.now c.take-busy.new.self c.take-busy.result c.requires.running c.take-busy.ensures)
@@ -65,9 +72,20 @@ places-preserved c =
     length-set ys c.places.place new ∙ as_long (turned c.args.own.now turn) xs ys c.places.place c.places.invariant.2.go_on in
     let same : length ys ≡ length xs = as_long (turned c.args.own.now turn) xs ys c.places.place c.places.invariant.2.go_on in (
       omega (arith, c.places.invariant.0, c.next_from-place-in-places.ensures.from),
-      λ few. six_more (length xs) c.places.place c.places.turns c.places.looks c.turn_iface.new.looks c.renew.new.looks
-          (omega (arith, same, c.places-test.true)) few c.places.invariant.0 (c.places.invariant.1 few) c.in_ok-changes.ensures.counted
-          c.renew.ensures.counted,
+      λ (few : length xs ≤ 64).
+          let lt : c.places.place < length xs = omega (arith, same, c.places-test.true) in
+          counted_more turn xs c.take-busy.result
+          (λ (place : ℕ) (d : Iface) (lt : place < length xs).
+          busy_here turn xs c.args.kept.now c.take-busy.new.self c.take-busy.result c.requires.running c.take-busy.ensures place d lt
+          (omega (arith, lt, few)))
+          c.places.place c.places.turns c.places.looks c.renew.new.looks c.next_from-place-in-places.result lt (c.places.invariant.1 few)
+          (λ (asked : c.places.looks ≡ 6 * c.places.turns).
+          six_more (length xs) c.places.place c.places.turns c.places.looks c.turn_iface.new.looks c.renew.new.looks lt few c.places.invariant.0 asked
+          c.in_ok-changes.ensures.counted c.renew.ensures.counted)
+          c.next_from-place-in-places.ensures.from (subst (λ (n : ℕ). c.next_from-place-in-places.result ≤ n) long c.next_from-place-in-places.ensures.end)
+          c.next_from-place-in-places.ensures.skips
+          (λ (below : c.next_from-place-in-places.result < length xs).
+          c.next_from-place-in-places.ensures.found (subst (λ (n : ℕ). c.next_from-place-in-places.result < n) (sym long) below)),
       skipped c.args.own.now turn xs _ _ _ _ _ _ _ c.take-busy.result
           (is_near turn xs c.args.kept.now c.take-busy.new.self c.take-busy.result c.requires.running c.take-busy.ensures)
           (is_idle turn xs c.args.kept.now c.take-busy.new.self c.take-busy.result c.requires.running c.take-busy.ensures)
@@ -99,7 +117,13 @@ pub returns-clause-leads : goal.returns-clause-leads
 returns-clause-leads c = done_leads _ _ _ c.places-test.false c.places.invariant.2 c.in_ok-into_diff.field-0 c.in_ok-into_diff.ensures
 
 pub returns-clause-looks : goal.returns-clause-looks
-returns-clause-looks c = c.places.invariant.1
+returns-clause-looks c = λ (few : _). (c.places.invariant.1 few).six
 
 pub returns-clause-turns : goal.returns-clause-turns
-returns-clause-turns c = omega (arith, c.places.invariant.0, c.places.invariant.2.within)
+returns-clause-turns c =
+    λ (few : _).
+    counted_all (turn_of c.args.turn.now) c.args.ifaces.now c.places.place c.places.turns c.places.looks
+    (over _ _ _ c.places-test.false c.places.invariant.2) (c.places.invariant.1 few)
+
+pub returns-clause-at_most : goal.returns-clause-at_most
+returns-clause-at_most c = omega (arith, c.places.invariant.0, c.places.invariant.2.within)
