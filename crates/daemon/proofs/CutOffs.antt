@@ -45,9 +45,9 @@ front_some (Some w) new start bytes text lines empty printed same some =
 -- lines were written before the front
 pub front_after : (old mid new : Option (List ℕ)) (before whole lines : List Line) → WritesLines old mid before → WritesFront mid new whole lines
     → WritesFront old new (before ++ whole) lines
-front_after None mid new before whole lines p q = subst (λ (m : Option (List ℕ)). WritesFront m new whole lines) p q
+front_after None mid new before whole lines p q = subst (λ (m : Option (List ℕ)). WritesFront m new whole lines) p.bytes q
 front_after (Some w) mid new before whole lines p q =
-    let here : WritesFront (Some (w ++ lines_text before)) new whole lines = subst (λ (m : Option (List ℕ)). WritesFront m new whole lines) p q in (
+    let here : WritesFront (Some (w ++ lines_text before)) new whole lines = subst (λ (m : Option (List ℕ)). WritesFront m new whole lines) p.bytes q in (
       here.0,
       here.1
           ∙ ap (λ (x : List ℕ). Some (x ++ take here.0 (lines_text lines)))

@@ -33,7 +33,7 @@ use Rattle.daemon.specs.Filed.{LeavesFiled}
 -- ---- the calls of a life
 
 -- the last wait is a front of a turn
-last_front : (managed : List Managed) (life : Life) (last : List Call) → IsLast life last → FrontOfTurn managed life last
+pub last_front : (managed : List Managed) (life : Life) (last : List Call) → IsLast life last → FrontOfTurn managed life last
 last_front managed life [] is = tt
 last_front managed life (Link (Waited asked (Some given)) ∷ []) is = (
   is.0,
@@ -66,16 +66,16 @@ turn_front managed life met turn = (
   }),
 )
 
-first_turns : (managed : List Managed) (from : Life) (a b : List Met) → AreTurns managed from (a ++ b) → AreTurns managed from a
+pub first_turns : (managed : List Managed) (from : Life) (a b : List Met) → AreTurns managed from (a ++ b) → AreTurns managed from a
 first_turns managed from [] b turns = tt
 first_turns managed from (met ∷ a) b turns = (turns.0, first_turns managed met.life a b turns.1)
 
-later_turns : (managed : List Managed) (from : Life) (a b : List Met) → AreTurns managed from (a ++ b) → AreTurns managed (life_after from a) b
+pub later_turns : (managed : List Managed) (from : Life) (a b : List Met) → AreTurns managed from (a ++ b) → AreTurns managed (life_after from a) b
 later_turns managed from [] b turns = turns
 later_turns managed from (met ∷ a) b turns = later_turns managed met.life a b turns.1
 
 -- what was asked where a life was cut off
-cut_front : (end : ServeEnd) (managed : List Managed) (life : Life) (at : CutAt) (calls : List Call) → CutsAt end managed life at calls
+pub cut_front : (end : ServeEnd) (managed : List Managed) (life : Life) (at : CutAt) (calls : List Call) → CutsAt end managed life at calls
     → AreTurns managed life (cut_turns at)
     → FrontOfTurn managed life calls
 cut_front ends.End managed life at calls cuts turns = absurd cuts
@@ -131,7 +131,7 @@ files_since managed specs old new begun calls front tells = record {
 
 -- ---- each end of a life
 
-after_opening : (managed : List Managed) (specs : List IfSpec) (opening : OpeningMet) (mets : List Met) (last : List Call) → IsOpening managed specs opening
+pub after_opening : (managed : List Managed) (specs : List IfSpec) (opening : OpeningMet) (mets : List Met) (last : List Call) → IsOpening managed specs opening
     → AreTurns managed opening.life mets → FrontOfTurn managed (life_after opening.life mets) last
     → FrontOfLife managed specs (opening.calls ++ (turns_calls opening.life mets ++ last))
 after_opening managed specs opening mets last opens turns front =

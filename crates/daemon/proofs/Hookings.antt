@@ -2,7 +2,6 @@
 use Rattle.std.proofs.Common.{ℕ, ◌≡◌, ◌+◌, ◌<◌, ◌≤◌, arith, Bool, true, false, cond, List, [], ◌∷◌, length, get_or, take, map, Option, Some, None, Result, Ok, Err, refl, sym, ap, subst, ◌∙◌}
 use Rattle.std.specs.Prelude.{find, option_map, unwrap_or, IsSome}
 use Rattle.std.specs.Option.{is_some}
-use Rattle.std.proofs.lemmas.List.{take_more, map-append}
 use Rattle.net_types.proofs.ReadsLaws.{some_same}
 use Rattle.world.specs.declared.hooking.Poll as said
 use Rattle.world.specs.declared.hooking.Poll.TheVariants as poll
@@ -19,7 +18,7 @@ use Rattle.device_calls.specs.Worlds.{Seen}
 use Rattle.device_calls.specs.Does.{Does}
 use Rattle.device_calls.specs.Printing.{Prints}
 use Rattle.device_calls.proofs.Doing.{does_done, does_one, does_then, does_after}
-use Rattle.device_calls.proofs.Printings.{prints_then, prints_same}
+use Rattle.device_calls.proofs.Printings.{contents_more}
 use Rattle.turn_model.specs.Hooking.{heard, letting_go, polling_child, polling, putting_one, putting, started, starting, child_due}
 use Rattle.daemon.specs.Answered.{runs_on}
 use Rattle.daemon.specs.Hooking.{Puts, is_abandon}
@@ -206,11 +205,7 @@ module _ {X : Type 0} (content : X → Variable) where
   pub variables_more : (vars : List X) (i : ℕ) (d : X) (t u v : List ℕ) → i < length vars → Prints t u (map variable_line (map content (take i vars)))
       → Prints u v (variable_line (content (get_or vars i d)) ∷ [])
       → Prints t v (map variable_line (map content (take (i + 1) vars)))
-  variables_more vars i d t u v lt p q =
-      prints_same (prints_then p q)
-      (sym (map-append variable_line (map content (take i vars)) (content (get_or vars i d) ∷ []))
-      ∙ ap (map variable_line) (sym (map-append content (take i vars) (get_or vars i d ∷ [])))
-      ∙ ap (λ (vs : List X). map variable_line (map content vs)) (sym (take_more vars i d lt)))
+  variables_more vars i d t u v lt p q = contents_more variable_line content vars i d t u v lt p q
 
 -- ---- the first in line is started
 

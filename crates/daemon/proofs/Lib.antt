@@ -22,5 +22,6 @@ pub mod CutOffs
 pub mod Fronts
 mod FileNames
 pub mod Wakings
-pub mod Whole
 pub mod Filings
+pub mod SafeLives
+pub mod Whole

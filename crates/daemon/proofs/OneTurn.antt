@@ -1,5 +1,5 @@
 -- One wake of a life.
-use Rattle.std.proofs.Common.{ℕ, ◌≡◌, Bool, true, false, cond, ◌||◌, List, [], ◌∷◌, ◌++◌, length, take, drop, Option, Some, None, refl, sym, ap, subst, ◌∙◌, append-nil, arith}
+use Rattle.std.proofs.Common.{ℕ, ◌≡◌, Bool, true, false, cond, ◌||◌, List, [], ◌∷◌, length, take, drop, Option, Some, None, refl, sym, ap, subst, ◌∙◌, append-nil, arith}
 use Rattle.std.specs.Prelude.{IfSome, option_map}
 use Rattle.world.specs.declared.wakes.Wake.{Wake}
 use Rattle.world.specs.StoreFails.{StoreFails}
@@ -8,12 +8,10 @@ use Rattle.world.specs.HostCalls.{HostTold}
 use Rattle.world.specs.StoreCalls.{StoreTold}
 use Rattle.world.specs.HookCalls.{HooksTold}
 use Rattle.settings.specs.declared.interfaces.Managed.{Managed}
-use Rattle.script_model.specs.Lines.{Line, lines_text}
 use Rattle.device_calls.specs.Calls.{Call, Link}
 use Rattle.device_calls.specs.Worlds.{Seen, World, Told, Ran, told_from, told_of, world_from, world_of, run}
 use Rattle.device_calls.specs.Telling.{Tells}
 use Rattle.device_calls.specs.Does.{IsRun, Did}
-use Rattle.device_calls.specs.Printing.{Prints}
 use Rattle.device_calls.proofs.Doing.{tells_then}
 use Rattle.device_calls.proofs.Running.{run_coming}
 use Rattle.turn_model.specs.Turns.{Life, turn_asks, until, is_over, is_end}
@@ -23,7 +21,7 @@ use Rattle.daemon.specs.Waits.{WaitsThere}
 use Rattle.daemon.specs.Streams.{WritesBytes, WritesLines}
 use Rattle.daemon.specs.Serving.{MakesTurn, told_last, AreFirst, Goes, Ends}
 use Rattle.daemon.proofs.Waitings.{woke, is_end-cut, Woke, woke_world, wait_tells, Gave, gave, link_alone, same_but_link}
-use Rattle.daemon.proofs.Stretches.{lines_none}
+use Rattle.daemon.proofs.Stretches.{lines_none, text_written}
 
 or_false : (a b : Bool) → a ≡ false → b ≡ false → (a || b) ≡ false
 or_false a b p q = rw (p, q) refl
@@ -99,12 +97,6 @@ turn_tells from to wake bytes buffer calls old mid new more room front waits tel
     tells_then old mid new (Link (Waited (until from) (Some (record { wake = wake; bytes = bytes }))) ∷ []) calls
     (wait_tells (until from) wake bytes buffer more room front old mid waits) tells
 
--- the text of a turn was written
-written_once : (old new : Option (List ℕ)) (text : List ℕ) (lines : List Line) → WritesBytes old new text → Prints [] text lines
-    → WritesLines old new (lines ++ [])
-written_once None new text lines w p = w
-written_once (Some written) new text lines w p = w ∙ ap (λ (x : List ℕ). Some (written ++ x)) (p.appended ∙ ap lines_text (sym (append-nil lines)))
-
 pub one_goes : (managed : List Managed) (from to : Life) (wake : Wake) (bytes buffer text_old text written : List ℕ) (asked : Option ℕ) (old mid new : Seen)
     (out out_to : Option (List ℕ))
     → (made : MakesTurn managed from wake bytes to mid new text_old text) → text_old ≡ [] → written ≡ text → WritesBytes out out_to written
@@ -117,8 +109,8 @@ one_goes managed from to wake bytes buffer text_old text written asked old mid n
       turns = (record { going = going; more = more; makes = made.did.makes }, tt);
       after = refl;
       written =
-          written_once out out_to text (turn_lines (met_with wake bytes made.calls to)) (subst (λ (t : List ℕ). WritesBytes out out_to t) same wrote)
-          (subst (λ (t : List ℕ). Prints t text (turn_lines (met_with wake bytes made.calls to))) empty made.lines);
+          subst (WritesLines out out_to) (sym (append-nil (turn_lines (met_with wake bytes made.calls to))))
+          (text_written out out_to text_old written text (turn_lines (met_with wake bytes made.calls to)) empty made.lines same wrote);
       tells = subst (λ (cs : List Call). Tells old new cs) (sym (append-nil (turn_calls from (met_with wake bytes made.calls to))))
           (turn_tells from to wake bytes buffer made.calls old mid new more room front waits_here made.did.tells);
       foretold = turn_first managed from to wake bytes buffer made.calls old mid new going more room front waits_here made.did;

@@ -9,11 +9,13 @@ use Rattle.script_model.specs.Lines.{Line, line_text, lines_text}
 use Rattle.device_calls.specs.Calls.{Call}
 use Rattle.device_calls.specs.Worlds.{Seen, World, world_of}
 use Rattle.device_calls.specs.Telling.{Tells}
+use Rattle.device_calls.specs.Printing.{Prints}
 use Rattle.device_calls.proofs.Doing.{tells_none, tells_then}
 use Rattle.turn_model.specs.Turns.{Life, is_over}
 use Rattle.turn_model.specs.Lives.{Met, turn_lines, AreTurns, life_after, turn_calls, turns_calls}
 use Rattle.turn_model.specs.Foretold.{told_turns, told_after, foretold_turns, left_in}
-use Rattle.daemon.specs.Streams.{WritesLines}
+use Rattle.typed_lines.proofs.TypedParts.{typed_both}
+use Rattle.daemon.specs.Streams.{WritesBytes, WritesLines}
 use Rattle.daemon.specs.Serving.{told_last, AreFirst, AreWhole, Goes, Ends, AreManyTurns}
 
 pub turns-append : (managed : List Managed) (from : Life) (a b : List Met) → AreTurns managed from a → AreTurns managed (life_after from a) b
@@ -31,15 +33,30 @@ turns_calls-append from (met ∷ a) b =
     ap (λ (cs : List Call). turn_calls from met ++ cs) (turns_calls-append met.life a b)
     ∙ sym (append_assoc (turn_calls from met) (turns_calls met.life a) (turns_calls (life_after met.life a) b))
 
-pub lines_then : (old mid new : Option (List ℕ)) (a b : List Line) → WritesLines old mid a → WritesLines mid new b → WritesLines old new (a ++ b)
-lines_then None mid new a b p q = subst (λ (m : Option (List ℕ)). WritesLines m new b) p q
-lines_then (Some w) mid new a b p q =
-    let at_mid : WritesLines (Some (w ++ lines_text a)) new b = subst (λ (m : Option (List ℕ)). WritesLines m new b) p q in
+bytes_then : (old mid new : Option (List ℕ)) (a b : List Line) → WritesBytes old mid (lines_text a) → WritesBytes mid new (lines_text b)
+    → WritesBytes old new (lines_text (a ++ b))
+bytes_then None mid new a b p q = subst (λ (m : Option (List ℕ)). WritesBytes m new (lines_text b)) p q
+bytes_then (Some w) mid new a b p q =
+    let at_mid : WritesBytes (Some (w ++ lines_text a)) new (lines_text b) = subst (λ (m : Option (List ℕ)). WritesBytes m new (lines_text b)) p q in
     at_mid ∙ ap (λ (x : List ℕ). Some x) (append_assoc w (lines_text a) (lines_text b) ∙ ap (λ (x : List ℕ). w ++ x) (sym (flat_map-append line_text a b)))
 
+bytes_none : (old : Option (List ℕ)) → WritesBytes old old []
+bytes_none None = refl
+bytes_none (Some w) = ap (λ (x : List ℕ). Some x) (sym (append-nil w))
+
+pub lines_then : (old mid new : Option (List ℕ)) (a b : List Line) → WritesLines old mid a → WritesLines mid new b → WritesLines old new (a ++ b)
+lines_then old mid new a b p q = record { bytes = bytes_then old mid new a b p.bytes q.bytes; typed = typed_both a b p.typed q.typed }
+
 pub lines_none : (old : Option (List ℕ)) → WritesLines old old []
-lines_none None = refl
-lines_none (Some w) = ap (λ (x : List ℕ). Some x) (sym (append-nil w))
+lines_none old = record { bytes = bytes_none old; typed = tt }
+
+-- lines that were made in a text of their own, and written
+pub text_written : (old new : Option (List ℕ)) (start bytes text : List ℕ) (lines : List Line) → start ≡ [] → Prints start text lines → bytes ≡ text
+    → WritesBytes old new bytes → WritesLines old new lines
+text_written old new start bytes text lines empty prints same written = record {
+  bytes = subst (WritesBytes old new) (same ∙ prints.appended ∙ ap (λ (s : List ℕ). s ++ lines_text lines) empty) written;
+  typed = prints.typed;
+}
 
 -- ---- where all devices tell
 

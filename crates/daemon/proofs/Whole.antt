@@ -5,13 +5,12 @@ use Rattle.std.specs.Option.{is_some}
 use Rattle.net_types.specs.declared.interface.IfSpec.{IfSpec}
 use Rattle.world.specs.declared.wakes.Begin.{Begin}
 use Rattle.world.specs.LinkCalls.{Given}
+use Rattle.settings.specs.Fitting.{AreManaged}
 use Rattle.settings.specs.declared.interfaces.Managed.{Managed}
-use Rattle.script_model.specs.Lines.{Line}
 use Rattle.device_calls.specs.Calls.{Call}
 use Rattle.device_calls.specs.Worlds.{Seen, World, Ran, world_of, run}
 use Rattle.device_calls.specs.Does.{IsRun}
 use Rattle.device_calls.specs.Fronts.{HasBegun}
-use Rattle.device_calls.specs.Printing.{Prints}
 use Rattle.device_calls.proofs.Doing.{tells_then}
 use Rattle.device_calls.proofs.Running.{run_coming}
 use Rattle.turn_model.specs.Turns.{Life}
@@ -26,8 +25,9 @@ use Rattle.daemon.specs.Serving.{opening_with, told_last, MakesOpening, Ends, Ar
 use Rattle.daemon.specs.Served.{IsLifeOf, Served}
 use Rattle.daemon.specs.Cuts.{cut_lines, turns_left, BreaksOff, CutOpening, CutLife, BeginFails, Leaves}
 use Rattle.daemon.proofs.Waitings.{began, begun_world}
-use Rattle.daemon.proofs.Stretches.{lines_then}
+use Rattle.daemon.proofs.Stretches.{lines_then, text_written}
 use Rattle.daemon.proofs.CutOffs.{front_some, front_after, told_left, left_whole}
+use Rattle.daemon.proofs.SafeLives.{begun_safe, opening_safe, ended_safe, cut_safe}
 
 -- ---- what was foretold
 
@@ -88,18 +88,17 @@ many_before managed specs begin life turns old mid opened text_old text begins m
     many_from managed specs begin made.calls life turns (world_of old) (world_of mid) (world_of opened)
     (begun_world begin old mid begins) made.did.foretold many
 
-opening_written : (old new : Option (List ℕ)) (text : List ℕ) (lines : List Line) → WritesBytes old new text → Prints [] text lines → WritesLines old new lines
-opening_written None new text lines w p = w
-opening_written (Some written) new text lines w p = w ∙ ap (λ (x : List ℕ). Some (written ++ x)) p.appended
-
 module _ (managed : List Managed) (specs : List IfSpec) (begin : Begin) (life : Life) (old mid opened : Seen) (text_old text written : List ℕ)
     (out out_one : Option (List ℕ))
     (begins : BeginsThere old mid (began begin)) (made : MakesOpening managed specs begin life mid opened text_old text) (empty : text_old ≡ [])
-    (same : written ≡ text) where
+    (same : written ≡ text) (fit : AreManaged managed) where
   lines_written : WritesBytes out out_one written → WritesLines out out_one (opening_lines (opening_with begin made.calls life))
   lines_written wrote =
-      opening_written out out_one text (opening_lines (opening_with begin made.calls life)) (subst (λ (t : List ℕ). WritesBytes out out_one t) same wrote)
-      (subst (λ (t : List ℕ). Prints t text (opening_lines (opening_with begin made.calls life))) empty made.lines)
+      text_written out out_one text_old written text (opening_lines (opening_with begin made.calls life)) empty made.lines same wrote
+
+  last_there : (allowed : ℕ) (last : Life) (new : Seen) (out_two : Option (List ℕ)) (ends : Ends allowed managed life opened out_one last new out_two)
+      → IsLast (life_after life ends.mets) ends.last
+  last_there allowed last new out_two ends = subst (λ (l : Life). IsLast l ends.last) ends.after ends.last_is
 
   -- it was lived to its end
   pub serves : (allowed : ℕ) (last : Life) (new : Seen) (out_two out_three : Option (List ℕ)) → WritesBytes out out_one written
@@ -113,7 +112,7 @@ module _ (managed : List Managed) (specs : List IfSpec) (begin : Begin) (life : 
     begins = refl;
     opens = made.did.makes;
     turns = ends.turns;
-    last_is = subst (λ (l : Life). IsLast l ends.last) ends.after ends.last_is;
+    last_is = last_there allowed last new out_two ends;
     within = ends.within;
     tells = tells_then mid opened new made.calls (turns_calls life ends.mets ++ ends.last) made.did.tells ends.tells;
     written =
@@ -127,6 +126,9 @@ module _ (managed : List Managed) (specs : List IfSpec) (begin : Begin) (life : 
     left =
         leaves_foretold managed specs begin made.calls life (world_of old) (world_of mid) (world_of opened) (world_of new)
         (begun_world begin old mid begins) made.did.foretold ends.left;
+    safe =
+        ended_safe managed specs fit (opening_with begin made.calls life) made.did.makes ends.mets ends.last ends.turns
+        (last_there allowed last new out_two ends);
     child = known ∙ ap (λ (l : Life). is_some l.hooks.child) ends.after;
   }
 
@@ -143,6 +145,7 @@ module _ (managed : List Managed) (specs : List IfSpec) (begin : Begin) (life : 
     foretold =
         opens_foretold managed specs begin made.calls life (told_left managed life (world_of opened)) (world_of old) (world_of mid) (world_of opened)
         (begun_world begin old mid begins) made.did.foretold (left_whole managed life (world_of opened));
+    safe = opening_safe managed specs fit (opening_with begin made.calls life) made.did.makes;
   }
 
   pub leaves_opening : (end : ServeEnd) (allowed : ℕ) (out_to : Option (List ℕ)) (a b : ℕ) → WritesSome out out_to written → HasServeCause end a b 0 0
@@ -175,6 +178,8 @@ module _ (managed : List Managed) (specs : List IfSpec) (begin : Begin) (life : 
         (begun_world begin old mid begins) made.did.foretold breaks.whole;
     within = breaks.within;
     all = breaks.all;
+    safe =
+        cut_safe managed specs fit (opening_with begin made.calls life) made.did.makes breaks.mets end breaks.at breaks.calls breaks.turns breaks.cuts;
   }
 
   pub leaves_life : (end : ServeEnd) (allowed : ℕ) (new : Seen) (out_to : Option (List ℕ)) → WritesBytes out out_one written
@@ -195,8 +200,15 @@ leaves_unbegun ends.WriteFault allowed managed specs old new out fails = absurd 
 leaves_unbegun ends.NoMemory allowed managed specs old new out fails = absurd fails
 
 -- memory was wanted in its opening, whose lines weren't written yet
-pub leaves_opened : (allowed : ℕ) (managed : List Managed) (specs : List IfSpec) (begin : Begin) (old mid new : Seen) (out : Option (List ℕ))
-    → BeginsThere old mid (began begin)
+pub leaves_opened : (allowed : ℕ) (managed : List Managed) (specs : List IfSpec) → AreManaged managed
+    → (begin : Begin) (old mid new : Seen) (out : Option (List ℕ)) → BeginsThere old mid (began begin)
     → HasBegun (opening_asks managed specs begin) mid new → Leaves ends.NoMemory allowed managed specs old new out out
-leaves_opened allowed managed specs begin old mid new out begins opens =
-    inl (refl, record { begun = record { begin = begin; seen = mid; begins = begins }; opens = opens })
+leaves_opened allowed managed specs fit begin old mid new out begins opens =
+    inl (
+      refl,
+      record {
+        begun = record { begin = begin; seen = mid; begins = begins };
+        opens = opens;
+        safe = begun_safe managed specs fit begin opens.calls opens.front;
+      },
+    )

@@ -1,4 +1,6 @@
 ghost use Rattle.std.specs.Prelude.{◌≡◌, ◌≤◌, true, OnOk, IfOk, IfErr, [], ◌∷◌};
+ghost use Rattle.std.specs.List.{AllByRecursion};
+ghost use Rattle.world.specs.Rows.{IsRow};
 ghost use Rattle.client_model.specs.Clients.{rows_of};
 ghost use Rattle.turn_model.specs.Lives.{hold_lines, closing_lines};
 ghost use Rattle.daemon.specs.Lives.{life_of};
@@ -15,6 +17,7 @@ use transcript_text::TranscriptLine;
 use world::{HostRow, NoMemory, Sink};
 
 fn say_hold(row: &HostRow, text: &mut Vec<u8>) -> Result<(), NoMemory>
+    requires { IsRow row.now }
     ensures { OnOk result (Prints text.old.items text.new.items (hold_lines (row.now ∷ []))) }
 {
     match *row {
@@ -24,6 +27,7 @@ fn say_hold(row: &HostRow, text: &mut Vec<u8>) -> Result<(), NoMemory>
 }
 
 fn say_holds(rows: &[HostRow], text: &mut Vec<u8>) -> Result<(), NoMemory>
+    requires { AllByRecursion IsRow rows.now }
     ensures { OnOk result (Prints text.old.items text.new.items (hold_lines rows.now)) }
 {
     for row in rows {
@@ -41,6 +45,7 @@ fn say_closing(life: &Life, text: &mut Vec<u8>) -> Result<(), NoMemory>
 }
 
 /// Writes the last lines of a life: the addresses that it leaves.
+#[tactic(auto, using(crate::proofs::Stretches::text_written, crate::proofs::CutOffs::front_some))]
 pub fn close<O: Sink>(life: &Life, out: &mut O, text: &mut Vec<u8>) -> Result<(), ServeEnd>
     ensures ok { IfOk result
         (λ _. (O.faults out.old ≤ O.faults out.new)

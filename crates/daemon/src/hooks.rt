@@ -235,6 +235,7 @@ fn say_variables(vars: &[HookVar], text: &mut Vec<u8>) -> Result<(), NoMemory>
     Ok(())
 }
 
+#[tactic(auto, using(device_calls::proofs::Printings::prints_then))]
 fn say_started(job: &HookJob, done: bool, text: &mut Vec<u8>) -> Result<(), NoMemory>
     ensures { OnOk result
         (Prints text.old.items text.new.items

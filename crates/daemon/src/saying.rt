@@ -2,18 +2,20 @@ ghost use Rattle.std.specs.Prelude.{◌≡◌, ◌++◌, [], ◌∷◌, List, So
 ghost use Rattle.world.specs.HostCalls as calls;
 ghost use Rattle.script_model.specs.Lines as lines;
 ghost use Rattle.transcript_text.specs.Printed.{line_of};
+ghost use Rattle.typed_lines.specs.TypedLines.{IsTyped};
 ghost use Rattle.host_model.specs.HostTurn.{change_call};
 ghost use Rattle.device_calls.specs.CallLines.{host_lines};
 ghost use Rattle.device_calls.specs.Printing.{Prints};
-ghost use Rattle.daemon.specs.Answered.{rows_in};
+ghost use Rattle.daemon.specs.Answered.{rows_in, FitsChange};
 
 use host_model::HostChange;
 use transcript_text::{TranscriptLine, print_line};
 use world::{HostRow, NoMemory};
 
-/// Appends one line to a text.
+/// Appends one line to a text; what it tells is within the types that hold it.
 #[tactic(auto, using(device_calls::proofs::Printings::prints_line))]
 pub fn say(line: &TranscriptLine<'_>, text: &mut Vec<u8>) -> Result<(), NoMemory>
+    requires { IsTyped (line_of line.now) }
     ensures { OnOk result (Prints text.old.items text.new.items (line_of line.now ∷ [])) }
 {
     print_line(line, text)
@@ -51,6 +53,7 @@ pub fn say_listing(rows: &Option<Vec<HostRow>>, text: &mut Vec<u8>) -> Result<()
 
 /// Appends the line of a change.
 pub fn say_change(change: HostChange, done: bool, text: &mut Vec<u8>) -> Result<(), NoMemory>
+    requires { FitsChange change }
     ensures { OnOk result (Prints text.old.items text.new.items (host_lines (change_call change done))) }
 {
     match change {

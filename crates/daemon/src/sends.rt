@@ -1,10 +1,12 @@
-ghost use Rattle.std.specs.Prelude.{◌≡◌, IfOk, IfErr, map};
+ghost use Rattle.std.specs.Prelude.{◌≡◌, [], ◌∷◌, IfOk, IfErr, OnOk, map};
 ghost use Rattle.std.specs.List.{AllByRecursion};
 ghost use Rattle.world.specs.Rows.{IsInterface};
+ghost use Rattle.script_model.specs.Lines as lines;
 ghost use Rattle.iface_core.specs.Outcomes.{sending_of};
 ghost use Rattle.client_core.specs.Stepping.{IsOnInterface};
 ghost use Rattle.device_calls.specs.Calls.{Offer};
 ghost use Rattle.device_calls.specs.Programs.{Then, Done};
+ghost use Rattle.device_calls.specs.Printing.{Prints};
 ghost use Rattle.device_calls.specs.Does.{Does};
 ghost use Rattle.device_calls.specs.Fronts.{HasBegun};
 ghost use Rattle.turn_model.specs.Turns.{marked, offering};
@@ -29,6 +31,17 @@ fn marked(unsent: u64, iface: IfIndex, taken: bool) -> u64
     }
 }
 
+fn say_send(iface: IfIndex, bytes: &[u8], taken: bool, text: &mut Vec<u8>) -> Result<(), NoMemory>
+    ensures { OnOk result (Prints text.old.items text.new.items (lines.Send iface bytes.now taken ∷ [])) }
+{
+    let line = TranscriptLine::Send {
+        iface,
+        bytes,
+        taken,
+    };
+    say(&line, text)
+}
+
 fn offer<W: Outside>(
     outside: &mut W,
     sending: &Sending,
@@ -43,12 +56,7 @@ fn offer<W: Outside>(
     ensures waiting { (W.seen outside.new).waiting ≡ (W.seen outside.old).waiting }
 {
     let taken = outside.offer(sending.iface, &sending.bytes)?;
-    let line = TranscriptLine::Send {
-        iface: sending.iface,
-        bytes: &sending.bytes,
-        taken,
-    };
-    say(&line, text)?;
+    say_send(sending.iface, &sending.bytes, taken, text)?;
     Ok(taken)
 }
 

@@ -1,8 +1,9 @@
 -- The lines of a configuration, cut one after another.
-use Rattle.std.proofs.Common.{ℕ, ◌≡◌, ◌<◌, List, [], ◌∷◌, ◌++◌, length, Some, None, refl, sym, ap, subst, ◌∙◌, append_assoc, append-nil}
+use Rattle.std.proofs.Common.{ℕ, ◌≡◌, ◌+◌, ◌<◌, List, [], ◌∷◌, ◌++◌, length, get_or, take, Some, None, refl, sym, ap, subst, ◌∙◌, append_assoc, append-nil}
 use Rattle.std.specs.Prelude.{map}
 use Rattle.std.specs.List.{join_with_byte, AllByRecursion}
 use Rattle.std.proofs.lemmas.List.{map-append}
+use Rattle.net_types.specs.declared.interface.IfSpec.{IfSpec}
 use Rattle.net_types.specs.Marks.{Lacks}
 use Rattle.net_types.specs.Cutting.{split_at_byte}
 use Rattle.net_types.proofs.ReadsLaws.{split_sound, split_whole}
@@ -12,9 +13,13 @@ use Rattle.replay_text.specs.ScriptContent.{lines_within, conf_lines}
 use Rattle.replay_text.proofs.BlockLaws.{parts_line, parts_joined, parts_lack}
 use Rattle.script_model.specs.Lines.{Line}
 use Rattle.script_model.specs.Lines as lines
+use Rattle.typed_lines.specs.TypedLines.{AreTyped}
 use Rattle.device_calls.specs.Printing.{Prints}
+use Rattle.conf_text.specs.Contents.{notice_content}
+use Rattle.conf_text.specs.declared.conf.Notice.{Notice}
 use Rattle.dhcpcd.specs.Living.{last_part, unended}
-use Rattle.device_calls.proofs.Printings.{prints_none, prints_then, prints_same}
+use Rattle.dhcpcd.specs.Replays.{notice_line}
+use Rattle.device_calls.proofs.Printings.{contents_more, lines_more, prints_none, prints_then, prints_same}
 
 none_within : (text : List ℕ) → split_at_byte 10 text ≡ None → (parts : List (List ℕ)) → parts_of text ≡ parts → lines_within parts ≡ []
 none_within text none [] is = refl
@@ -101,3 +106,19 @@ rest_is old new conf rest none p = sym (p.last ∙ unended_none rest none)
 
 pub rest_smaller : (rest line after : List ℕ) → split_at_byte 10 rest ≡ Some (line, after) → length after < length rest
 rest_smaller rest line after e = split_smaller 10 rest line after e
+
+-- a line of a configuration is within its type
+pub confs_typed : (parts : List (List ℕ)) → AreTyped (map lines.Conf parts)
+confs_typed [] = tt
+confs_typed (part ∷ parts) = (tt, confs_typed parts)
+
+-- ---- interfaces and notices, one after another
+
+pub interfaces_more : (specs : List IfSpec) (i : ℕ) (d : IfSpec) (t u v : List ℕ) → i < length specs → Prints t u (map lines.Interface (take i specs))
+    → Prints u v (lines.Interface (get_or specs i d) ∷ []) → Prints t v (map lines.Interface (take (i + 1) specs))
+interfaces_more specs i d t u v lt p q = lines_more lines.Interface specs i d t u v lt p q
+
+pub notices_more : (notices : List Notice) (i : ℕ) (d : Notice) (t u v : List ℕ) → i < length notices
+    → Prints t u (map notice_line (map notice_content (take i notices))) → Prints u v (notice_line (notice_content (get_or notices i d)) ∷ [])
+    → Prints t v (map notice_line (map notice_content (take (i + 1) notices)))
+notices_more notices i d t u v lt p q = contents_more notice_line notice_content notices i d t u v lt p q

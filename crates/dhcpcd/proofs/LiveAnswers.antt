@@ -23,6 +23,7 @@ use Rattle.dhcpcd.specs.Refusals.{IsConfRefused}
 use Rattle.dhcpcd.specs.Statuses.{HasStatusCause, StopsReading, StopsWriting}
 use Rattle.dhcpcd.proofs.Endings.{configured, not_too_long}
 use Rattle.file_evidence.proofs.StoreRuns.{foretold_whole}
+use Rattle.safe_texts.proofs.PlainConfigurations.{configured_texts_are_safe}
 use Rattle.dhcpcd.proofs.FilesRightly.{life_keeps}
 use Rattle.dhcpcd.proofs.HostRightly.{life_holds}
 use Rattle.dhcpcd.proofs.SafelyTold.{life_tells}
@@ -96,6 +97,7 @@ module _ (text : List ℕ) (conf : Configuration) (is : IsConfOf text (Ok conf))
       in_limit = within;
       configured = is;
       lived = life;
+      plain = configured_texts_are_safe text conf is specs;
       host = if_told (world_of told.seen_from) _ (λ world sound. life_holds text conf is specs fits world sound.rows sound.coming);
       files = if_told (world_of told.seen_from) _ (λ world sound. life_keeps text conf is specs fits world sound.files);
       safe = if_told (world_of told.seen_from) _ (λ world sound. life_tells text conf is specs fits world sound.coming);

@@ -88,7 +88,7 @@ pub made_written : (rounds : ℕ) (s : Settled) (text : List ℕ) → IsSettledA
 made_written rounds s text is written = record {
   conf = configuration s.conf;
   configured = is.configured;
-  is = some_is written ∙ ap (λ (lines : ScriptLines). lines_text (transcript lines (configuration s.conf))) is.script_is;
+  is = some_is written.bytes ∙ ap (λ (lines : ScriptLines). lines_text (transcript lines (configuration s.conf))) is.script_is;
 }
 
 -- where no write failed, memory was wanted

@@ -1,21 +1,21 @@
 -- A life over the devices of a script.
 use Rattle.std.specs.Prelude.{IfSome, flat_map}
-use Rattle.std.proofs.Common.{ℕ, ◌≡◌, ◌+◌, ◌≤◌, List, [], ◌∷◌, ◌++◌, length, Option, Some, None, ◌⊎◌, ⊎_elim, sym, ap, subst, ◌∙◌, append-nil, arith}
+use Rattle.std.proofs.Common.{ℕ, ◌≡◌, ◌+◌, ◌≤◌, List, [], ◌∷◌, ◌++◌, length, Option, Some, ◌⊎◌, ⊎_elim, sym, ap, ap₂, subst, append-nil, arith}
 use Rattle.settings.specs.declared.interfaces.Managed.{Managed}
-use Rattle.script_model.specs.ScriptTexts.{LifeScript}
+use Rattle.script_model.specs.ScriptTexts.{LifeScript, ScriptLines}
+use Rattle.conf_text.specs.Configurations.{Configuration, NoticeContent}
 use Rattle.device_calls.specs.Worlds.{Seen, World, told_from, world_from, world_of}
 use Rattle.turn_model.specs.Lives.{OpeningMet, Met, life_after, opening_lines, turn_lines, closing_lines, life_lines}
 use Rattle.turn_model.specs.Foretold.{ForetoldLife, foretold_life}
-use Rattle.script_model.specs.Lines.{Line, lines_text}
+use Rattle.script_model.specs.Lines.{Line}
 use Rattle.script_model.specs.Lines as lines
-use Rattle.daemon.specs.Streams.{WritesBytes, WritesSome, WritesLines, WritesFront}
+use Rattle.daemon.specs.Streams.{WritesLines, WritesFront}
 use Rattle.net_types.specs.declared.interface.IfSpec.{IfSpec}
 use Rattle.daemon.specs.Served.{IsLifeOf, IsForetold, Served}
-use Rattle.device_calls.specs.Printing.{Prints}
 use Rattle.daemon.specs.declared.serving.ServeEnd.{ServeEnd}
 use Rattle.daemon.specs.declared.serving.ServeEnd.TheVariants as ends
 use Rattle.daemon.specs.Cuts.{turns_left, CutOpening, CutLife, Leaves}
-use Rattle.daemon.proofs.CutOffs.{front_none, front_some}
+use Rattle.daemon.proofs.CutOffs.{front_none}
 use Rattle.daemon.proofs.Stretches.{lines_then}
 use Rattle.daemon.proofs.Fronts.{front_wider, front_then, front_of_life}
 use Rattle.world_mem.specs.LinkRecord.{LinkState}
@@ -23,7 +23,7 @@ use Rattle.world_mem.specs.StoreRecord.{StoreState}
 use Rattle.world_mem.specs.HookRecord.{HooksState}
 use Rattle.world_mem.specs.HostRecord.{HostState}
 use Rattle.dhcpcd.specs.Memory.{link_of}
-use Rattle.dhcpcd.specs.Replays.{Failing, Between, store_fails, world_in, lines_in, life_in}
+use Rattle.dhcpcd.specs.Replays.{Failing, Between, store_fails, world_in, lines_in, life_in, head_lines, lives_of_script, managed_in, transcript}
 
 -- devices in memory
 pub record Held : Type 0 where
@@ -141,17 +141,14 @@ all_come life sent sends link begins many =
     let count : length link.told.coming ≡ length life.turns = ap (λ (l : LinkState). length l.told.coming) begins in
     omega (arith, count, many)
 
--- lines that were made in a text of their own, and written
-pub head_written : (old new : Option (List ℕ)) (start bytes text : List ℕ) (head : List Line) → start ≡ [] → Prints start text head → bytes ≡ text
-    → WritesBytes old new bytes → WritesLines old new head
-head_written None new start bytes text head empty printed same written = written
-head_written (Some before) new start bytes text head empty printed same written =
-    written ∙ ap (λ (x : List ℕ). Some (before ++ x)) (same ∙ printed.appended ∙ ap (λ (s : List ℕ). s ++ lines_text head) empty)
-
--- of these, a front
-pub front_of_head : (old new : Option (List ℕ)) (start bytes text : List ℕ) (head : List Line) → start ≡ [] → Prints start text head → bytes ≡ text
-    → WritesSome old new bytes → WritesFront old new [] head
-front_of_head old new start bytes text head empty printed same some = front_some old new start bytes text head empty printed same some
+-- the head of a transcript, and then its lives
+pub head_and_lives : (script : ScriptLines) (conf : Configuration) (notices : List NoticeContent) (managed : List Managed) (old mid new : Option (List ℕ))
+    → notices ≡ conf.notices → managed ≡ managed_in script conf → WritesLines old mid (head_lines script notices)
+    → WritesLines mid new (lives_of_script managed script) → WritesLines old new (transcript script conf)
+head_and_lives script conf notices managed old mid new told given head lives =
+    subst (λ (ls : List Line). WritesLines old new ls)
+    (ap₂ (λ (ns : List NoticeContent) (ms : List Managed). head_lines script ns ++ lives_of_script ms script) told given)
+    (lines_then old mid new (head_lines script notices) (lives_of_script managed script) head lives)
 
 -- a front of the first lines is one of all
 pub front_first : (old new : Option (List ℕ)) (first more : List Line) → WritesFront old new [] first → WritesFront old new [] (first ++ more)

@@ -1,5 +1,6 @@
 -- What `live` writes and answers: a configuration is read, and one life is lived over the devices.
 use Rattle.std.specs.Prelude.{ℕ, ◌≡◌, ◌<◌, ◌≤◌, ◌⊎◌, List, [], ◌∷◌, ◌++◌, length, Option, Ok, Err, IfSome}
+use Rattle.std.specs.List.{AllByRecursion}
 use Rattle.net_types.specs.declared.interface.IfSpec.{IfSpec}
 use Rattle.world.specs.SoundStores as stores
 use Rattle.script_model.specs.Lines.{Line}
@@ -11,6 +12,7 @@ use Rattle.conf_text.specs.Settings.{managed_of}
 use Rattle.device_calls.specs.Worlds.{Seen, world_of}
 use Rattle.file_evidence.specs.WholeFiles.{LivesWhole}
 use Rattle.live_words.specs.LiveWords.{AsksLive}
+use Rattle.safe_texts.specs.ConfiguredTexts.{IsPlainlyConfigured}
 use Rattle.daemon.specs.declared.serving.ServeEnd.{ServeEnd}
 use Rattle.daemon.specs.declared.serving.ServeEnd.TheVariants as ends
 use Rattle.daemon.specs.Streams.{WritesLines, WritesFront}
@@ -112,9 +114,9 @@ IsLifeAnswer other ask told = ⊥
 abbrev pub IsUntouched : Around → Type 0
 IsUntouched told = (told.out_to ≡ told.out_from) × (told.seen_to ≡ told.seen_from)
 
--- The input was a configuration, and this became of its life. Over devices that tell what they hold, the host and the
--- store hold what they shall, and hooks and the resolver are told what is safe to read; over a sound store files are
--- whole at each moment.
+-- The input was a configuration, and this became of its life. What is configured for hooks and the resolver is plain,
+-- and so is what the life told them. Over devices that tell what they hold, the host and the store hold what they
+-- shall, and hooks and the resolver are told what is safe to read; over a sound store files are whole at each moment.
 pub record IsLived (answer : Status) (specs : List IfSpec) (turns : ℕ) (input : Option (List ℕ))
     (told : Around) : Type 0 where
   pub text : List ℕ
@@ -123,6 +125,7 @@ pub record IsLived (answer : Status) (specs : List IfSpec) (turns : ℕ) (input 
   pub in_limit : length text ≤ limit
   pub configured : IsConfOf text (Ok conf)
   pub lived : IsLifeAnswer answer (asked text conf specs turns) told
+  pub plain : AllByRecursion IsPlainlyConfigured (managed_of conf specs)
   pub host : IfSome (world_of told.seen_from)
       (λ world. IsSound world → HoldsRightly (managed_of conf specs) specs world)
   pub files : IfSome (world_of told.seen_from)

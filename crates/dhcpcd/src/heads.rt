@@ -2,6 +2,7 @@ ghost use Rattle.std.specs.Prelude.{◌≡◌, ◌++◌, ◌<◌, [], ◌∷◌,
 ghost use Rattle.script_model.specs.Lines as lines;
 ghost use Rattle.replay_text.specs.ScriptContent.{conf_lines, script_of};
 ghost use Rattle.transcript_text.specs.Printed.{line_of};
+ghost use Rattle.typed_lines.specs.TypedLines.{IsTyped};
 ghost use Rattle.device_calls.specs.Printing.{Prints};
 ghost use Rattle.conf_text.specs.Contents.{notice_content};
 ghost use Rattle.dhcpcd.specs.Replays.{head_lines, notice_line};
@@ -22,9 +23,10 @@ pub struct Start<'a> {
     pub specs: &'a [IfSpec],
 }
 
-/// Appends a line.
+/// Appends a line; what it tells is within the types that hold it.
 #[tactic(auto, using(device_calls::proofs::Printings::prints_line))]
 pub fn say(line: &TranscriptLine<'_>, text: &mut Vec<u8>) -> Result<(), NoMemory>
+    requires { IsTyped (line_of line.now) }
     ensures { OnOk result (Prints text.old.items text.new.items (line_of line.now ∷ [])) }
 {
     print_line(line, text)
@@ -48,7 +50,7 @@ fn say_ended<'a>(conf: &'a [u8], text: &mut Vec<u8>) -> Result<&'a [u8], NoMemor
 }
 
 /// Appends the lines of a configuration; the last one may lack its line feed.
-#[tactic(auto, using(device_calls::proofs::Printings::prints_then))]
+#[tactic(auto, using(device_calls::proofs::Printings::prints_then, crate::proofs::HeadLines::confs_typed))]
 fn say_text(conf: &[u8], text: &mut Vec<u8>) -> Result<(), NoMemory>
     ensures { OnOk result (Prints text.old.items text.new.items (map lines.Conf (text_lines conf.now))) }
 {
@@ -59,6 +61,7 @@ fn say_text(conf: &[u8], text: &mut Vec<u8>) -> Result<(), NoMemory>
     Ok(())
 }
 
+#[tactic(auto, using(device_calls::proofs::Printings::prints_none, crate::proofs::HeadLines::interfaces_more))]
 fn say_interfaces(ifaces: &[IfSpec], text: &mut Vec<u8>) -> Result<(), NoMemory>
     ensures { OnOk result (Prints text.old.items text.new.items (map lines.Interface ifaces.now)) }
 {
@@ -69,6 +72,7 @@ fn say_interfaces(ifaces: &[IfSpec], text: &mut Vec<u8>) -> Result<(), NoMemory>
 }
 
 /// Appends a line for each word of the configuration that does nothing.
+#[tactic(auto, using(device_calls::proofs::Printings::prints_none, crate::proofs::HeadLines::notices_more))]
 pub fn say_notices(notices: &[Notice], text: &mut Vec<u8>) -> Result<(), NoMemory>
     ensures { OnOk result (Prints text.old.items text.new.items (map notice_line (map notice_content notices.now))) }
 {

@@ -37,7 +37,7 @@ pub fn write_text<O: Sink>(out: &mut O, text: &[u8]) -> Result<(), Status>
 }
 
 /// Writes the head of a script's transcript.
-#[tactic(auto, using(crate::proofs::WholeLife::head_written, crate::proofs::WholeLife::front_of_head, daemon::proofs::CutOffs::front_none))]
+#[tactic(auto, using(daemon::proofs::Stretches::text_written, daemon::proofs::CutOffs::front_some, daemon::proofs::CutOffs::front_none))]
 pub fn write_head<O: Sink>(
     alloc: Global,
     script: &Script,
@@ -63,7 +63,7 @@ pub fn write_head<O: Sink>(
 }
 
 /// Writes the line that begins a life, by its number from 1.
-#[tactic(auto, using(crate::proofs::WholeLife::head_written, crate::proofs::WholeLife::front_of_head, daemon::proofs::CutOffs::front_none))]
+#[tactic(auto, using(daemon::proofs::Stretches::text_written, daemon::proofs::CutOffs::front_some, daemon::proofs::CutOffs::front_none))]
 pub fn begin_life<O: Sink>(alloc: Global, number: u64, out: &mut O) -> Result<(), Status>
     ensures ok { IfOk result
         (λ _. (O.faults out.old ≤ O.faults out.new)
@@ -82,7 +82,7 @@ pub fn begin_life<O: Sink>(alloc: Global, number: u64, out: &mut O) -> Result<()
 }
 
 /// Writes the lines before the one life of `live`, in one call.
-#[tactic(auto, using(crate::proofs::WholeLife::head_written, crate::proofs::WholeLife::front_of_head, daemon::proofs::CutOffs::front_none))]
+#[tactic(auto, using(daemon::proofs::Stretches::text_written, daemon::proofs::CutOffs::front_some, daemon::proofs::CutOffs::front_none))]
 pub fn write_live_head<O: Sink>(alloc: Global, start: &Start<'_>, out: &mut O) -> Result<(), Status>
     ensures ok { IfOk result
         (λ _. (O.faults out.old ≤ O.faults out.new) × WritesLines (O.written out.old) (O.written out.new)

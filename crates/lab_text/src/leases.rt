@@ -101,7 +101,9 @@ fn text_of(alloc: Global, held: &[Held]) -> Result<Vec<u8>, NoMemory>
 
 impl Leases {
     /// No lease.
-    pub fn new(alloc: Global) -> Leases {
+    pub fn new(alloc: Global) -> Leases
+        ensures { result ≡ [] }
+    {
         Leases {
             held: Vec::new(alloc),
             text: Vec::new(alloc),

@@ -1,4 +1,5 @@
 pub mod ToldLines
+mod TypedLives
 pub mod JustLives
 mod PlainLives
 mod CountedLines

@@ -32,12 +32,13 @@ use Rattle.dhcpcd.specs.Replays.{Between, Failing, IsScript, after_life, at_firs
 use Rattle.dhcpcd.specs.ToldSafely.{AllTellSafely}
 use Rattle.dhcpcd.proofs.Refusals.{each_fits, ifaces_fit, spelled_fits}
 use Rattle.dhcpcd.proofs.SafelyTold.{tells_safely}
-use Rattle.replay_audit.specs.Laws.{AreTyped, LivesAreJustified, ReplaysAreJustified, TranscriptsAreJustified, transcript_text}
+use Rattle.replay_audit.specs.Laws.{LivesAreJustified, LivesAreTyped, ReplaysAreJustified, TranscriptsAreJustified, transcript_text}
 use Rattle.replay_audit.specs.ScriptsTold.{body_of, lives_told, told_of}
 use Rattle.replay_audit.proofs.CountedLines.{ifaces_all, last_short, lives_all, lives_few, lives_short}
 use Rattle.replay_audit.proofs.FittingLives.{first_fit, hooks_left_fit, store_left_fits, world_fits}
 use Rattle.replay_audit.proofs.PlainLives.{life_plain}
 use Rattle.replay_audit.proofs.ToldLines.{lines_are_told}
+use Rattle.replay_audit.proofs.TypedLives.{lives_are_typed}
 
 -- ---- as many lives
 
@@ -121,7 +122,7 @@ module _ (tell : LivesAreWellTold) (bytes : List ℕ) (script : ScriptLines) (co
   counted : length script.lives ≡ length lives
   counted = lives_counted managed script.ifaces (failing_in script.fails) (at_first script.rows script.files script.polls) script.lives
 
-  module _ (typed : AreTyped script conf) (short : length (transcript_text script conf) < 2 ^ 64) where
+  module _ (typed : LivesAreTyped script conf) (short : length (transcript_text script conf) < 2 ^ 64) where
     few_lines : length (lives_lines 1 lives) < 2 ^ 64
     few_lines =
         last_short (head_lines script.conf conf) (map Model.Interface script.ifaces) (lives_lines 1 lives)
@@ -187,6 +188,7 @@ module _ (tell : LivesAreWellTold) (Rests : BasisWord) (just : LivesAreJustified
   pub replays_are_justified : ReplaysAreJustified Rests
   replays_are_justified input before after replayed = record {
     text = transcript_text replayed.script replayed.conf;
-    written = replayed.written;
-    yes = λ typed short. transcripts_are_justified replayed.bytes replayed.script replayed.conf replayed.is_script typed short;
+    written = replayed.written.bytes;
+    yes = transcripts_are_justified replayed.bytes replayed.script replayed.conf replayed.is_script
+        (lives_are_typed replayed.script replayed.conf replayed.written.typed);
   }

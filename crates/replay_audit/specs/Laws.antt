@@ -27,15 +27,15 @@ abbrev pub transcript_text : ScriptLines → Configuration → List ℕ
 transcript_text script conf = lines_text (transcript script conf)
 
 -- each line of its lives is within the types that hold it
-abbrev pub AreTyped : ScriptLines → Configuration → Type 0
-AreTyped script conf = AllByRecursion IsTypedLife (body_of script conf).lives
+abbrev pub LivesAreTyped : ScriptLines → Configuration → Type 0
+LivesAreTyped script conf = AllByRecursion IsTypedLife (body_of script conf).lives
 
 -- Yes is to be said to it, with the number of its lives and of all turns that they handled. What its lines count are
 -- numbers of 64 bits, and its own length alone bounds them.
 abbrev pub TranscriptsAreJustified : BasisWord → Type 0
 TranscriptsAreJustified Rests =
-    (bytes : List ℕ) (script : ScriptLines) (conf : Configuration) → IsScript bytes script conf → AreTyped script conf
-    → length (transcript_text script conf) < 2 ^ 64
+    (bytes : List ℕ) (script : ScriptLines) (conf : Configuration) → IsScript bytes script conf
+    → LivesAreTyped script conf → length (transcript_text script conf) < 2 ^ 64
     → IsYes Rests (transcript_text script conf) (length script.lives) (turns_told (told_of script conf))
 
 -- a text was written behind what stood there, and yes is to be said to it
@@ -43,10 +43,9 @@ pub record WritesYes (Rests : BasisWord) (script : ScriptLines) (conf : Configur
     (after : Option (List ℕ)) : Type 0 where
   pub text : List ℕ
   pub written : after ≡ Some (before ++ text)
-  pub yes : AreTyped script conf → length text < 2 ^ 64
-      → IsYes Rests text (length script.lives) (turns_told (told_of script conf))
+  pub yes : length text < 2 ^ 64 → IsYes Rests text (length script.lives) (turns_told (told_of script conf))
 
--- So it is of what `replay` writes where it is done, whatever script it was given.
+-- So it is of what `replay` writes where it is done, whatever script it was given: its lines are within their types.
 abbrev pub ReplaysAreJustified : BasisWord → Type 0
 ReplaysAreJustified Rests = (input : Option (List ℕ)) (before : List ℕ) (after : Option (List ℕ))
     (replayed : IsReplayed input (Some before) after) → WritesYes Rests replayed.script replayed.conf before after

@@ -13,8 +13,8 @@ pub fn lives_of_scripts_are_justified()
 {}
 
 /// Law: the text of the transcript of a script, of fewer than 2^64 bytes and of lines within the types that hold them,
-/// is a transcript to which yes is to be said: each address that it shows has its basis. So it is with all that
-/// `replay` writes where it answers that it is done.
+/// is a transcript to which yes is to be said: each address that it shows has its basis. All that `replay` writes where
+/// it answers that it is done is within these types, so that yes is to be said to it, too, where it is as short.
 pub fn what_replay_writes_is_justified()
     ensures held { TranscriptsAreJustified HeldBasis }
     ensures heard { TranscriptsAreJustified HeardBasisIn }

@@ -19,3 +19,4 @@ pub mod LifeLines
 pub mod PlainSayings
 pub mod PlainConfigurations
 pub mod ConfiguredLives
+pub mod CutLives

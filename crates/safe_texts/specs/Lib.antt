@@ -4,3 +4,4 @@ pub mod ExactVariables
 pub mod SafeJobs
 pub mod ResolverLines
 pub mod ConfiguredTexts
+pub mod SafeCalls

@@ -3,6 +3,7 @@ ghost use Rattle.safe_texts.specs.SafeJobs.{LifeJobsAreSafe, OpeningJobsAreSafe,
 ghost use Rattle.safe_texts.specs.SafeVariables.{MadeVariablesAreSafe};
 ghost use Rattle.safe_texts.specs.ExactVariables.{ExactVariablesAreSafe, MadeVariablesAreExact};
 ghost use Rattle.safe_texts.specs.ConfiguredTexts.{ConfiguredLivesAreLives, ConfiguredTextsAreSafe, VariablesArePrintable};
+ghost use Rattle.safe_texts.specs.SafeCalls.{LivesTellSafely};
 ghost use Rattle.safe_texts.specs.ResolverLines.{WantedLinesAreSafe, WrittenLinesAreSafe};
 
 /// Law of hook jobs: what is made of an event has no control character and no byte past ASCII, and each value is of the
@@ -39,4 +40,11 @@ pub fn configured_lives_are_safe()
     ensures texts { ConfiguredTextsAreSafe }
     ensures variables { VariablesArePrintable }
     ensures lives { ConfiguredLivesAreLives }
+{}
+
+/// Law of a life up to any moment, whatever its calls were answered: each job that it started or dropped is safe, as
+/// above. Where what is configured is printable so is each variable, and where the name servers are addresses and
+/// frames are bytes each text that was written to take the place of the resolver's file is lines.
+pub fn unfinished_lives_are_safe()
+    ensures { LivesTellSafely }
 {}

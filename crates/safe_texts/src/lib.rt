@@ -6,5 +6,5 @@ mod laws;
 
 pub use laws::{
     configured_lives_are_safe, job_variables_are_exact, job_variables_are_safe,
-    resolver_lines_are_safe,
+    resolver_lines_are_safe, unfinished_lives_are_safe,
 };

@@ -30,7 +30,8 @@ use Rattle.transcript_lines.specs.Names.{is_word}
 use Rattle.transcript_lines.specs.Roles.{role_of}
 use Rattle.transcript_model.specs.LifeShapes.{AllFollow, follows}
 use Rattle.transcript_text.specs.Fits.{FitsPoll, FitsReading, IsWord}
-use Rattle.told_lives.specs.Laws.{IsTyped}
+use Rattle.typed_lines.specs.TypedLines.{AreTyped}
+use Rattle.typed_lines.proofs.TypedParts.{typed_parts}
 use Rattle.told_lives.specs.FittingWorlds.{FitsHost, FitsStore, FitsWorld, IsStoredName}
 use Rattle.told_lives.proofs.FittingLists.{AreRows, AreStored, FitsChange, HasOctets, IsHeld, NamesFit, applied_fits, aside_named, asides_named, drop_stored, file_octets, put_stored, rename_stored, undo_fits}
 use Rattle.told_lives.proofs.StandingLines.{FitsBut, IsOther, Stand, listing_stands, other_stands, stand_both, stand_none}
@@ -124,10 +125,6 @@ files_true : (names : List (List ℕ)) → AllByRecursion IsStoredName names
     → AllByRecursion (λ name. IsTrue (list_all is_file_byte name)) names
 files_true [] named = tt
 files_true (name ∷ names) named = (named.0.bytes, files_true names named.1)
-
--- its lines are within their types
-abbrev pub AreTyped : List Line → Type 0
-AreTyped lines = AllByRecursion IsTyped lines
 
 pub call_fits : (ask : Ask) (answer : AnswerTo ask) → FitsAsk ask → FitsAnswer ask answer → AreTyped (lines_of (made ask answer)) → FitsCall (made ask answer)
 call_fits (Offer iface frame) taken asked told typed =
@@ -326,13 +323,6 @@ pub record Went {A : Type 0} (R : A → Type 0) (ran : Ran A) : Type 0 where
   pub calls : AllByRecursion FitsCall ran.calls
   pub result : R ran.result
   pub left : FitsWorld ran.world
-
-all_parts : {A : Type 0} (P : A → Type 0) (xs ys : List A) → AllByRecursion P (xs ++ ys) → AllByRecursion P xs × AllByRecursion P ys
-all_parts P [] ys all = (tt, all)
-all_parts P (x ∷ xs) ys all = let rest = all_parts P xs ys all.1 in ((all.0, rest.0), rest.1)
-
-pub typed_parts : (a b : List Line) → AreTyped (a ++ b) → AreTyped a × AreTyped b
-typed_parts a b typed = all_parts IsTyped a b typed
 
 pub run_went : {A : Type 0} (R : A → Type 0) (asks : Asks A) (world : World) → Goes R asks → FitsWorld world
     → AreTyped (flat_map lines_of (run asks world).calls) → Went R (run asks world)

@@ -45,8 +45,9 @@ use Rattle.turn_model.specs.KeptFiles.{Duid, Keeps, KeptFile, Lease4, Lease6, Re
 use Rattle.turn_model.specs.Loading.{FilesLoaded, Loaded, duid_file, duid_with, file_with, files_by, files_loaded, files_of, lease4_file, lease6_file, loaded, loading, loading_files, loading_one, reading_if, resolver_file}
 use Rattle.turn_model.specs.Opening.{clearing, clearing_listed, opening_asks, opening_step, outlook_from, removing}
 use Rattle.turn_model.specs.Turns.{Life, Outlook, acting, changing, hosting, hosting_listed, input_of, known_with, marked, offering, outlook_with, rows_on, step_of, stop_after, turn_asks, turn_moment}
+use Rattle.typed_lines.specs.TypedLines.{AreTyped}
 use Rattle.told_lives.specs.FittingWorlds.{IsStoredName}
-use Rattle.told_lives.proofs.Answering.{AreTyped, FitsJob, FitsListed, FitsNumbered, Goes, changed_row, goes_after}
+use Rattle.told_lives.proofs.Answering.{FitsJob, FitsListed, FitsNumbered, Goes, changed_row, goes_after}
 use Rattle.told_lives.proofs.FittingLists.{AreRows, IsHeld, applied_fits, changes_held, filtered, order_fits}
 
 -- of a result of which nothing is asked

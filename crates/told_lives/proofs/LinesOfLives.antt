@@ -35,9 +35,11 @@ use Rattle.transcript_model.specs.LifeShapes.{AllFollow, NeverFall}
 use Rattle.transcript_model.specs.Told.{TurnTold, lines_within, turn_lines}
 use Rattle.transcript_text.specs.Fits.{FitsEvent, FitsMoment, IsWord}
 use Rattle.audit_model.specs.LivesTold.{held_at_end, life_lived, lines_by, only_last, turn_lived, turns_lived}
+use Rattle.typed_lines.specs.TypedLines.{AreTyped}
+use Rattle.typed_lines.proofs.TypedParts.{typed_parts}
 use Rattle.told_lives.specs.FittingWorlds.{FitsBegin, FitsComing, FitsInput, FitsWorld}
 use Rattle.told_lives.specs.Laws.{IsShort, IsTypedLife, IsWellTold, TellsWell, life_foretold}
-use Rattle.told_lives.proofs.Answering.{AreTyped, FitLines, FitsCall, Went, calls_fit, lines_both, plain_line, run_went, typed_parts}
+use Rattle.told_lives.proofs.Answering.{FitLines, FitsCall, Went, calls_fit, lines_both, plain_line, run_went}
 use Rattle.told_lives.proofs.FittingTurns.{FitsLife, KeepsFitting, LivesAt, opening_goes, turn_goes}
 use Rattle.told_lives.proofs.StandingLines.{Stand, lines_told, stand_both, stand_none}
 

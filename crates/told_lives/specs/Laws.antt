@@ -2,18 +2,15 @@
 use Rattle.std.specs.Prelude.{ℕ, ◌<◌, ◌^◌, List, length, Ok}
 use Rattle.std.specs.List.{AllByRecursion}
 use Rattle.net_types.specs.declared.interface.IfSpec.{IfSpec}
-use Rattle.net_types.specs.Marks.{AreBytes}
-use Rattle.world.specs.declared.rows.HostRow.TheVariants.{Addr}
-use Rattle.world.specs.Rows.{IsRow}
 use Rattle.settings.specs.declared.interfaces.Managed.{Managed}
 use Rattle.conf_text.specs.Configurations.{Configuration, IsConfOf}
 use Rattle.conf_text.specs.Fits.{FitsSpec}
 use Rattle.conf_text.specs.Settings.{managed_of}
-use Rattle.script_model.specs.Lines.{Line, Hold, HostAdd, Send, Start, Until, Wrote}
+use Rattle.script_model.specs.Lines.{Start}
 use Rattle.device_calls.specs.Worlds.{World}
 use Rattle.turn_model.specs.Foretold.{foretold_life}
 use Rattle.transcript_lines.specs.Bounds.{FitsTold}
-use Rattle.transcript_text.specs.Fits.{FitsMoment}
+use Rattle.typed_lines.specs.TypedLines.{AreTyped}
 use Rattle.transcript_model.specs.LifeShapes.{FitsLife}
 use Rattle.transcript_model.specs.Told.{LifeTold, lines_within}
 use Rattle.audit_model.specs.LivesTold.{life_lived}
@@ -35,18 +32,9 @@ life_foretold managed specs world =
 abbrev pub IsShort : LifeTold → Type 0
 IsShort life = length (lines_within life) < 2 ^ 64
 
--- What a line tells is within the types that hold it, as that of every line in memory is: bytes that are written and
--- sent, the moment of a wait, and rows that are added and addresses that stay, which are such as a host can hold.
-abbrev pub IsTyped : Line → Type 0
-IsTyped (Wrote name bytes done) = AreBytes bytes
-IsTyped (Send iface bytes taken) = AreBytes bytes
-IsTyped (HostAdd row done) = IsRow row
-IsTyped (Until moment) = FitsMoment moment
-IsTyped (Hold iface net) = IsRow (Addr iface net)
-IsTyped line = Unit {0}
-
+-- its lines are within the types that hold them
 abbrev pub IsTypedLife : LifeTold → Type 0
-IsTypedLife life = AllByRecursion IsTyped (lines_within life)
+IsTypedLife life = AreTyped (lines_within life)
 
 -- It is told so, and leaves devices that fit again.
 pub record TellsWell (managed : List Managed) (specs : List IfSpec) (world : World) : Type 0 where

@@ -17,17 +17,17 @@ returns-clause-does g c =
     (g.W.Outside.seen c.offer.new.self))
     c.deref.ensures.value c.in_ok-taken.ensures.one)
     (subst
-    (λ (frame : List ℕ). Prints c.args.text.now.items c.say.new.text.items (lines.Send c.args.sending.now.iface frame c.in_ok-taken.taken ∷ []))
-    c.deref-2.ensures.value c.in_ok-say.ensures)
+    (λ (frame : List ℕ). Prints c.args.text.now.items c.say_send.new.text.items (lines.Send c.args.sending.now.iface frame c.in_ok-taken.taken ∷ []))
+    c.deref-2.ensures.value c.in_ok-say_send.ensures)
 
 pub returns-in_err-taken-clause-begun : goal.returns-in_err-taken-clause-begun
 returns-in_err-taken-clause-begun g c =
     on_err c.from_residual.result
     (begun_none (Then (Offer c.args.sending.now.iface.number c.args.sending.now.bytes.items) Done) _ _ c.in_err-taken.ensures.memory)
 
-pub returns-in_err-say-clause-begun : goal.returns-in_err-say-clause-begun
-returns-in_err-say-clause-begun g c =
-    on_err c.from_residual-in_err-say.result
+pub returns-in_err-say_send-clause-begun : goal.returns-in_err-say_send-clause-begun
+returns-in_err-say_send-clause-begun g c =
+    on_err c.from_residual-in_err-say_send.result
     (begun_one (Offer c.args.sending.now.iface.number c.args.sending.now.bytes.items) c.in_ok-taken.taken _ _
     (subst
     (λ (frame : List ℕ). One (Offer c.args.sending.now.iface.number frame) c.in_ok-taken.taken (g.W.Outside.seen c.args.outside.now)

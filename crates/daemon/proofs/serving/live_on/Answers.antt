@@ -11,7 +11,7 @@ returns-clause-ok g c =
     serves c.args.managed.now c.args.specs.now c.in_ok-start.start (life_of c.in_ok-life.life) (g.W.Outside.seen c.args.outside.now)
     (g.W.Outside.seen c.begin.new.outside) (g.W.Outside.seen c.open.new.outside) c.new-text.result.items c.open.new.text.items c.deref.result.now
     (g.O.Sink.written c.args.out.now) (g.O.Sink.written c.write_all.new.out)
-    c.in_ok-start.ensures.ok.1 c.in_ok-life.ensures.made c.new-text.ensures.items c.deref.ensures.value
+    c.in_ok-start.ensures.ok.1 c.in_ok-life.ensures.made c.new-text.ensures.items c.deref.ensures.value c.requires.managed
     c.args.turns (life_of c.in_ok-last.last) (g.W.Outside.seen c.take_turns.new.outside) (g.O.Sink.written c.take_turns.new.out)
     (g.O.Sink.written c.close.new.out) c.in_ok-write_all.ensures.ok.1 c.in_ok-last.ensures.ok c.in_ok-last.ensures.child c.in_ok-close.ensures.ok.1
 
@@ -33,7 +33,7 @@ returns-in_err-write_all-clause-cut g c =
     (leaves_opening c.args.managed.now c.args.specs.now c.in_ok-start.start (life_of c.in_ok-life.life) (g.W.Outside.seen c.args.outside.now)
     (g.W.Outside.seen c.begin.new.outside) (g.W.Outside.seen c.open.new.outside) c.new-text.result.items c.open.new.text.items c.deref.result.now
     (g.O.Sink.written c.args.out.now) (g.O.Sink.written c.write_all.new.out)
-    c.in_ok-start.ensures.ok.1 c.in_ok-life.ensures.made c.new-text.ensures.items c.deref.ensures.value
+    c.in_ok-start.ensures.ok.1 c.in_ok-life.ensures.made c.new-text.ensures.items c.deref.ensures.value c.requires.managed
     c.in_err-write_all.field-0.0 c.args.turns (g.O.Sink.written c.write_all.new.out) _ _ c.in_err-write_all.ensures.some c.in_err-write_all.ensures.cause)
 
 pub returns-in_err-last-clause-cut : goal.returns-in_err-last-clause-cut
@@ -45,7 +45,7 @@ returns-in_err-last-clause-cut g c =
     (leaves_life c.args.managed.now c.args.specs.now c.in_ok-start.start (life_of c.in_ok-life.life) (g.W.Outside.seen c.args.outside.now)
     (g.W.Outside.seen c.begin.new.outside) (g.W.Outside.seen c.open.new.outside) c.new-text.result.items c.open.new.text.items c.deref.result.now
     (g.O.Sink.written c.args.out.now) (g.O.Sink.written c.write_all.new.out)
-    c.in_ok-start.ensures.ok.1 c.in_ok-life.ensures.made c.new-text.ensures.items c.deref.ensures.value
+    c.in_ok-start.ensures.ok.1 c.in_ok-life.ensures.made c.new-text.ensures.items c.deref.ensures.value c.requires.managed
     c.in_err-last.field-0.0 c.args.turns (g.W.Outside.seen c.take_turns.new.outside)
     (g.O.Sink.written c.take_turns.new.out) c.in_ok-write_all.ensures.ok.1 c.in_err-last.ensures.cut)
 
@@ -58,7 +58,7 @@ returns-in_err-close-clause-cut g c =
     (leaves_life c.args.managed.now c.args.specs.now c.in_ok-start.start (life_of c.in_ok-life.life) (g.W.Outside.seen c.args.outside.now)
     (g.W.Outside.seen c.begin.new.outside) (g.W.Outside.seen c.open.new.outside) c.new-text.result.items c.open.new.text.items c.deref.result.now
     (g.O.Sink.written c.args.out.now) (g.O.Sink.written c.write_all.new.out)
-    c.in_ok-start.ensures.ok.1 c.in_ok-life.ensures.made c.new-text.ensures.items c.deref.ensures.value
+    c.in_ok-start.ensures.ok.1 c.in_ok-life.ensures.made c.new-text.ensures.items c.deref.ensures.value c.requires.managed
     c.in_err-close.field-0.0 c.args.turns (g.W.Outside.seen c.take_turns.new.outside) (g.O.Sink.written c.close.new.out) c.in_ok-write_all.ensures.ok.1
     (breaks_at_end c.in_err-close.field-0.0 c.args.turns c.args.managed.now (life_of c.in_ok-life.life) (life_of c.in_ok-last.last)
     (g.W.Outside.seen c.open.new.outside) (g.W.Outside.seen c.take_turns.new.outside) (g.O.Sink.written c.write_all.new.out)
@@ -79,6 +79,6 @@ returns-in_err-life-clause-cut g c =
     (λ end. Leaves end c.args.turns c.args.managed.now c.args.specs.now (g.W.Outside.seen c.args.outside.now) (g.W.Outside.seen c.open.new.outside)
     (g.O.Sink.written c.args.out.now) (g.O.Sink.written c.args.out.now))
     c.from_residual-in_err-life.ensures.1
-    (leaves_opened c.args.turns c.args.managed.now c.args.specs.now c.in_ok-start.start (g.W.Outside.seen c.args.outside.now)
+    (leaves_opened c.args.turns c.args.managed.now c.args.specs.now c.requires.managed c.in_ok-start.start (g.W.Outside.seen c.args.outside.now)
     (g.W.Outside.seen c.begin.new.outside) (g.W.Outside.seen c.open.new.outside) (g.O.Sink.written c.args.out.now)
     c.in_ok-start.ensures.ok.1 c.in_err-life.ensures.begun)
