@@ -175,7 +175,8 @@ class Waiting:
             if words[0] == "until":
                 until = 0 if words[1] == "none" else int(words[1])
             elif words[0] == "turn":
-                if words[3] == "quiet" and until - turn > 900 * self.seconds:
+                # the first wait is one for a hook of the opening
+                if turn and words[3] == "quiet" and until - turn > 900 * self.seconds:
                     found.append(int(words[1]) - until)
                 turn = int(words[1])
         return found
