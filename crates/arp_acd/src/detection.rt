@@ -1,3 +1,6 @@
+//! The timed state machine that probes whether an IPv4 address is free, announces it, and then defends it or gives it
+//! up where another host uses it (RFC 5227).
+
 ghost use Rattle.std.specs.Prelude.{◌≡◌, ◌^◌, ◌<◌};
 ghost use Rattle.machine.specs.Moment.{moment_of};
 ghost use Rattle.arp_acd.specs.Table.{IsQuiet, IsStep, acd_begun, acd_hears, acd_restarts, acd_tick, contested_row, due_after, due_of, held_in, probing_anew};

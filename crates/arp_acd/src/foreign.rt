@@ -1,3 +1,5 @@
+//! Whether an ARP packet shows that another host uses an IPv4 address or probes for it.
+
 ghost use Rattle.std.specs.Prelude.{◌≡◌};
 ghost use Rattle.arp_acd.specs.Conflict.{is_contested, is_own, is_used};
 

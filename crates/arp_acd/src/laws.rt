@@ -1,3 +1,6 @@
+//! Laws of conflict detection: an address passes only after three probes and two seconds of quiet, and one in use
+//! that is contested twice within ten seconds is given up.
+
 ghost use Rattle.arp_acd.specs.Laws.{GivesUpContestedTwice, PassesAfterProbes};
 
 /// Law: no address passes before three probes were sent, a second or more apart, and two seconds of

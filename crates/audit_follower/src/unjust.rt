@@ -1,3 +1,5 @@
+//! What an audit tells of an address that has no basis: which it is, and where in the transcript it is shown.
+
 use world::HostRow;
 
 /// An address without basis, and the life and the turn after which it is shown: lives are counted from 1 and turns too,

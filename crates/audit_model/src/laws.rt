@@ -1,3 +1,6 @@
+//! Laws of audits by a test of addresses: what is kept line by line tells the verdict on a transcript, which has one
+//! at most, and the lines of a life show what the life showed.
+
 ghost use Rattle.audit_model.specs.Laws.{AuditsTell, VerdictsAreOne, VerdictsAreSaid};
 ghost use Rattle.audit_model.specs.LivesTold.{LivesAreToldSo};
 

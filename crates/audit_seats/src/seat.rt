@@ -23,6 +23,7 @@ impl Model for Seat {
 }
 
 impl Seat {
+    /// The seat of an interface of which nothing was told yet.
     pub fn new(site: Site) -> Seat
         requires { FitsSite site }
         ensures { result ≡ site }
@@ -30,6 +31,7 @@ impl Seat {
         Seat { site }
     }
 
+    /// Where the interface stands.
     pub fn site(&self) -> &Site
         ensures same { result.now ≡ self.now }
         ensures fits { FitsSite result.now }

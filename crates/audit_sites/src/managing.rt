@@ -37,6 +37,7 @@ fn numbers_of(alloc: Global, all: &[Managed]) -> Result<Vec<u32>, NoMemory>
 }
 
 impl Managing {
+    /// Over these interfaces.
     pub fn new(all: Vec<Managed>) -> Managing
         requires { AreManaged all.items }
         ensures { result ≡ all.items }
@@ -44,6 +45,7 @@ impl Managing {
         Managing { all }
     }
 
+    /// The interfaces, in their order.
     pub fn as_slice(&self) -> &[Managed]
         ensures same { result.now ≡ self.now }
         ensures fit { AreManaged result.now }
@@ -51,6 +53,7 @@ impl Managing {
         &self.all
     }
 
+    /// The interfaces themselves.
     pub fn into_vec(self) -> Vec<Managed>
         ensures same { result.items ≡ self }
         ensures fit { AreManaged result.items }

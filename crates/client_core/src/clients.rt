@@ -1,3 +1,6 @@
+//! The client over all managed interfaces, from its opening through its turns, and what is read of it: the rows it
+//! wants, the leases it keeps, the text for the resolver, and when it is next due.
+
 ghost use Rattle.std.specs.Prelude.{◌≡◌, ◌≤◌, ◌*◌, ◌++◌, [], length, IfOk, IfSome, map, option_map};
 ghost use Rattle.std.specs.List.{AllByRecursion};
 ghost use Rattle.std.specs.String.{string_bytes};

@@ -111,7 +111,7 @@ impl Dues {
         })
     }
 
-    /// Says when the machines of the interface at a place are due, where that is below 64. That each was asked for it is
+    /// Says when the machines of the interface at a place are due, where that is below 64. That each was asked is
     /// counted.
     pub fn put(&mut self, place: usize, iface: &Iface, looks: &mut u64)
         ensures puts { PutsMoments place (dues_of iface.now) self.old self.new }

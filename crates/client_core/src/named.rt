@@ -1,3 +1,5 @@
+//! A table that finds, by the index of an interface, the places of the interfaces with this index.
+
 ghost use Rattle.std.specs.Prelude.{◌≡◌, ◌==◌, ◌&&◌, ◌||◌, ℕ, ◌≤◌, []};
 ghost use Rattle.client_core.specs.Names.{AreNamed, named_as};
 ghost use Rattle.client_core.specs.Places.{has};

@@ -1,3 +1,5 @@
+//! Sets of places of interfaces as the bits of one word, which are walked from one place to the next.
+
 ghost use Rattle.std.specs.Prelude.{◌≡◌, ◌==◌, ◌||◌, ℕ, ◌<◌, ◌≤◌, true, false};
 ghost use Rattle.client_core.specs.Places.{has, no_places};
 

@@ -1,3 +1,6 @@
+//! A turn of each interface that has something to do: how the rows for the host change, what is touched of the files,
+//! and which jobs of hooks come of it.
+
 ghost use Rattle.std.specs.Prelude.{◌≡◌, ◌≤◌, ◌*◌, ◌&&◌, ◌++◌, not, List, [], Some, is_some, length, map, IfOk, OnOk};
 ghost use Rattle.net_types.specs.Moments.{IsMoment};
 ghost use Rattle.world.specs.HookCalls.{job_of};

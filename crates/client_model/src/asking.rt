@@ -1,3 +1,5 @@
+//! The types of identifier by which a DHCPv4 client names itself, and the codes of the options that it requests.
+
 use v4_options::code;
 
 /// The hardware type of Ethernet, with which the identifier of a client begins that is its hardware address (RFC 2132,

@@ -1,3 +1,6 @@
+//! The state of one managed interface: its settings, its carrier, its DHCPv4 and DHCPv6 clients, and its link-local
+//! address.
+
 use ipv4ll::LinkLocal;
 use settings::Managed;
 use v4_client::Client4;

@@ -1,3 +1,6 @@
+//! Laws: interfaces run apart, on their own inputs alone; what a client asks fits its messages; wanted rows are in
+//! order, and of like routes one is kept; kept texts tell their leases; rows change only where something is new.
+
 ghost use Rattle.std.specs.Prelude.{ℕ, List, map};
 ghost use Rattle.net_types.specs.declared.address.Mac.{Mac};
 ghost use Rattle.lease_text.specs.Leases.{LeaseContent};

@@ -1,3 +1,6 @@
+//! The news that a step may bring of an interface: its opening and its end, its carrier, its leases, and its
+//! link-local address.
+
 use net_types::Ip4;
 use v4_client::News4;
 use v6_client::News6;

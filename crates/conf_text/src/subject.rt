@@ -1,3 +1,6 @@
+//! What is looked at to say which settings are in force for one interface: the configuration, all interfaces, and its
+//! block.
+
 use crate::conf::Conf;
 use crate::scope::Scope;
 use net_types::IfSpec;

@@ -1,3 +1,5 @@
+//! The end of a life in the transcript: the addresses that it leaves, then its last line.
+
 ghost use Rattle.std.specs.Prelude.{◌≡◌, ◌≤◌, true, OnOk, IfOk, IfErr, [], ◌∷◌};
 ghost use Rattle.std.specs.List.{AllByRecursion};
 ghost use Rattle.world.specs.Rows.{IsRow};

@@ -1,3 +1,6 @@
+//! The calls of the host in a turn, each with its lines in the transcript: its rows are listed where they aren't
+//! known, and then changed to the wanted ones.
+
 ghost use Rattle.std.specs.Prelude.{◌≡◌, List, Option, Some, None, IfOk, IfErr, IfSome, filter};
 ghost use Rattle.std.specs.List.{AllByRecursion};
 ghost use Rattle.world.specs.declared.rows.HostRow.{HostRow};

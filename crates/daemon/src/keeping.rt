@@ -303,6 +303,7 @@ fn bring<'a, W: Outside>(
 }
 
 impl KeptFile {
+    /// The file of this name, and what is known of its contents.
     pub fn new(keeps: Keeps, name: String, known: Known) -> KeptFile
         requires { IsFileName (string_bytes name) }
         ensures { result ≡ record { keeps = keeps_of keeps; name = string_bytes name; known = known_of known } }

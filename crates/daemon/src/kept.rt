@@ -62,6 +62,7 @@ impl Model for KeptFiles {
 }
 
 impl KeptFiles {
+    /// What is known of these files, each asked under its own name.
     pub fn new(files: Vec<KeptFile>) -> KeptFiles
         ensures { result ≡ files.items }
     {

@@ -1,3 +1,5 @@
+//! The state of a life between two turns: how its moments go on, when it is to wake next, and when it is over.
+
 ghost use Rattle.std.specs.Prelude.{◌≡◌, ◌<◌, ◌≤◌, ◌+◌, ◌^◌, max};
 ghost use Rattle.client_model.specs.Clients.{earlier};
 ghost use Rattle.machine.specs.Moment.{moment_of};

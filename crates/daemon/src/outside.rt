@@ -1,3 +1,6 @@
+//! What a life may ask of its devices, seen as one: how it begins and waits, and the calls of the link, the host, the
+//! store and the hooks.
+
 ghost use Rattle.std.specs.Prelude.{◌≡◌, ◌≤◌, true, false, IfOk, IfErr, IfSome, IsOk, length};
 ghost use Rattle.std.specs.List.{AllByRecursion};
 ghost use Rattle.std.specs.String.{string_bytes};

@@ -1,3 +1,5 @@
+//! Lines of the transcript as text: any one line, and those of the listings and changes of the host's rows.
+
 ghost use Rattle.std.specs.Prelude.{◌≡◌, ◌++◌, [], ◌∷◌, List, Some, OnOk, map};
 ghost use Rattle.world.specs.HostCalls as calls;
 ghost use Rattle.script_model.specs.Lines as lines;

@@ -1,3 +1,6 @@
+//! The frames of a step are offered to the link, each with its line in the transcript, and it is noted on which
+//! interfaces a send failed.
+
 ghost use Rattle.std.specs.Prelude.{◌≡◌, [], ◌∷◌, IfOk, IfErr, OnOk, map};
 ghost use Rattle.std.specs.List.{AllByRecursion};
 ghost use Rattle.world.specs.Rows.{IsInterface};

@@ -1,3 +1,6 @@
+//! The run of one life, from its beginning through at most so many turns to its last line, and the ways in which it
+//! may end.
+
 ghost use Rattle.std.specs.Prelude.{◌≡◌, ◌≢◌, ◌≤◌, [], Some, true, false, Ok, Err, IfOk, IfErr, length};
 ghost use Rattle.settings.specs.Fitting.{AreManaged};
 ghost use Rattle.turn_model.specs.Turns.{is_over};

@@ -1,3 +1,6 @@
+//! One turn of a life with its lines in the transcript: the hook's child is polled, the client makes its step, and
+//! what that asks is done.
+
 ghost use Rattle.std.specs.Prelude.{◌≡◌, false, [], ◌∷◌, IfOk, IfErr, OnOk, length};
 ghost use Rattle.world.specs.LinkCalls.{frame_len};
 ghost use Rattle.script_model.specs.Lines as lines;

@@ -1,3 +1,6 @@
+//! One step of the daemon's life: the next event is waited for and handled, and what comes of it is written to the
+//! transcript.
+
 ghost use Rattle.std.specs.Prelude.{◌≡◌, ◌≢◌, ◌≤◌, [], ◌∷◌, true, false, Some, Ok, Err, IfOk, IfErr, length, take};
 ghost use Rattle.world.specs.LinkCalls.{frame_len};
 ghost use Rattle.turn_model.specs.Turns.{is_over, is_end};

@@ -1,3 +1,6 @@
+//! Tests that a turn of the client over 64 interfaces asks only those that are due or concerned, and that a stop asks
+//! all.
+
 ghost use Rattle.std.specs.Prelude.{◌≡◌, map, IfOk};
 ghost use Rattle.world.specs.Rows.{IsInterface};
 ghost use Rattle.client_model.specs.Fitting.{AreBeginnings, FitsBeginning};

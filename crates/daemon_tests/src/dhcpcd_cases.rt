@@ -1,3 +1,6 @@
+//! Tests of the program over devices in memory: how it ends where reads, writes or waits fail, where its turns are
+//! over, and after a stop.
+
 ghost use Rattle.std.specs.Prelude.{◌≡◌, false, IfOk};
 
 use daemon::Devices;

@@ -1,3 +1,6 @@
+//! Tests of the addresses and routes that interfaces share: which are wanted, what is told of their changes, and that
+//! a change takes few steps.
+
 ghost use Rattle.world.specs.Rows.{IsInterface, IsRow};
 
 use host_tables::{Counted, Diffs, HostRows, Plain, Steps, Tables};

@@ -1,3 +1,5 @@
+//! A test that an interface sends its first DHCPv6 message, a Solicit, a millisecond after its carrier came.
+
 ghost use Rattle.std.specs.Prelude.{IfOk};
 ghost use Rattle.settings.specs.Fitting.{FitsManaged};
 

@@ -1,3 +1,6 @@
+//! Tests of what is done with the daemon's files, over a store whose calls all succeed, and of how its faults are
+//! printed.
+
 ghost use Rattle.std.specs.Prelude.{None};
 
 use lease_file::{SaveFault, SaveStep, clear_asides, read_files, remove, save};

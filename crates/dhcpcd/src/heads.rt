@@ -1,3 +1,5 @@
+//! The lines of a transcript before its first life: the configuration, the notices about it, and the interfaces.
+
 ghost use Rattle.std.specs.Prelude.{◌≡◌, ◌++◌, ◌<◌, [], ◌∷◌, IfOk, OnOk, map, length};
 ghost use Rattle.script_model.specs.Lines as lines;
 ghost use Rattle.replay_text.specs.ScriptContent.{conf_lines, script_of};

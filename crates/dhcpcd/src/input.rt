@@ -1,3 +1,5 @@
+//! The reading of an input to its end; one of more than 16,777,216 bytes is refused.
+
 ghost use Rattle.std.specs.Prelude.{◌≡◌, ◌≢◌, ◌≤◌, ◌<◌, ◌+◌, true, Ok, Err, IfOk, IfErr, length, vec_len};
 ghost use Rattle.dhcpcd.specs.Input.{CountsTaken, Moves, TakesSome, ReadsWithin, IsInput, IsTooLong, input_told, limit};
 ghost use Rattle.dhcpcd.specs.Statuses.{HasStatusCause, StopsReading};

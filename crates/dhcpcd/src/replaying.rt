@@ -1,3 +1,5 @@
+//! The work that reads a script, lives its lives and writes their transcript.
+
 ghost use Rattle.std.specs.Prelude.{◌≡◌, ◌≢◌, ◌≤◌, [], true, Err, IfOk, IfErr};
 ghost use Rattle.settings.specs.Fitting.{AreManaged};
 ghost use Rattle.conf_text.specs.Contents.{configuration};

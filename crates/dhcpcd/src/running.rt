@@ -1,3 +1,5 @@
+//! The top call: it does the work that the program's words ask for, and answers how that ended.
+
 ghost use Rattle.std.specs.Prelude.{ℕ, ◌≡◌, true, false, map};
 ghost use Rattle.std.specs.String.{string_bytes};
 ghost use Rattle.capture_script.specs.CapturedScripts.{spec_of};

@@ -1,3 +1,5 @@
+//! How the program's work can end, and the exit status for each of these ends.
+
 ghost use Rattle.std.specs.Prelude.{◌≡◌};
 ghost use Rattle.dhcpcd.specs.Statuses.{status_number};
 

@@ -1,3 +1,5 @@
+//! Whether the words of the command line ask for the program's help, for its version, or for its work.
+
 ghost use Rattle.std.specs.Prelude.{map};
 ghost use Rattle.std.specs.String.{string_bytes};
 ghost use Rattle.dhcpcd_prog.specs.Questions.{IsAsked};

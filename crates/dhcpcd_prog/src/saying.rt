@@ -1,3 +1,5 @@
+//! The line on standard error that gives the reason where the program ends without success.
+
 use dhcpcd::Status;
 use std::io::Result;
 

@@ -1,3 +1,5 @@
+//! The texts that the program prints about itself: its help and its version.
+
 ghost use Rattle.dhcpcd.specs.Statuses.{HasStatusCause};
 ghost use Rattle.dhcpcd_prog.specs.Telling.{IsTold};
 

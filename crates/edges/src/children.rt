@@ -1,3 +1,5 @@
+//! Hook scripts that run as child processes, one at a time, each with the variables of its job and no others.
+
 ghost use Rattle.std.specs.Prelude.{◌≡◌, ◌≤◌, true, false, map, IfOk, OnOk};
 ghost use Rattle.std.specs.String.{string_bytes};
 ghost use Rattle.world.specs.Causes.{HasCause, HasDeviceCause};

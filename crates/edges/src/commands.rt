@@ -1,3 +1,5 @@
+//! The addresses and routes of the host, as a script that runs as a child process lists and changes them.
+
 ghost use Rattle.std.specs.Prelude.{◌≡◌, pos, [], ◌∷◌, ◌++◌, map, codes, List, All, IfOk, OnOk, OnErr, None, Some, IfSome};
 ghost use Rattle.std.specs.BTreeSet.{IsOrdered};
 ghost use Rattle.std.specs.String.{string_bytes};

@@ -1,3 +1,6 @@
+//! The form of the datagrams that carry frames and other events of interfaces: how they are read, and how a frame's
+//! is made.
+
 ghost use Rattle.std.specs.Prelude.{◌≡◌, ◌≤◌, length, take, drop, min, IfOk};
 ghost use Rattle.edges.specs.Datagrams.{is_interface, frame_said, carrier_by, carrier_said, duplicate_said, alone, said_of_interface, said_by_kind, event_said, frame_datagram};
 ghost use Rattle.world.specs.LinkCalls.{frame_len, cut_event};

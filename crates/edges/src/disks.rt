@@ -1,3 +1,6 @@
+//! What a machine is asked about its files and folders, one call of the system at a time, and what is told of each
+//! call.
+
 ghost use Rattle.std.specs.Prelude.{◌≤◌, [], ◌∷◌, List, Option, length, IfOk};
 ghost use Rattle.edges.specs.Asking.{Does, failure_of};
 ghost use Rattle.edges.specs.DiskCalls.{DiskCall, Opened, Made, Read, Wrote, Synced, Closed, Renamed, Removed, Listed, Named, read_into, name_given};

@@ -1,3 +1,5 @@
+//! The count of a device's failed calls, and what the device answers where a call of the system gave nothing.
+
 ghost use Rattle.std.specs.Prelude.{◌≡◌, ◌<◌, ◌-◌, ◌^◌, IfOk, IfErr, IsErr, OnOk};
 ghost use Rattle.world.specs.Causes.{HasCause, HasDeviceCause};
 ghost use Rattle.edges.specs.Asking.{failure_of, reason_of};

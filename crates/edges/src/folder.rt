@@ -1,3 +1,6 @@
+//! The daemon's store as files in one folder: they are read, removed, and replaced by the renaming of files written
+//! aside.
+
 ghost use Rattle.std.specs.Prelude.{◌≡◌, ◌≤◌, ◌+◌, ◌++◌, [], ◌∷◌, length, drop, filter, map, All, IfOk, IfErr, OnOk, OnErr};
 ghost use Rattle.std.specs.List.{list_all};
 ghost use Rattle.std.specs.String.{string_bytes};

@@ -1,3 +1,5 @@
+//! The interfaces as datagrams between two ports of the loopback address, and the waits for what comes there.
+
 ghost use Rattle.std.specs.Prelude.{◌≡◌, ◌<◌, ◌≤◌, ◌-◌, ◌^◌, true, false, length, None, Some, if◌then◌else◌, IfOk, IfSome, OnErr};
 ghost use Rattle.edges.specs.Ports.{port_named};
 ghost use Rattle.edges.specs.Waiting.{wait_end, piece_of, glancing, is_over, last_told, has_come, IsOver, IsDue, IsDueBy, IsAwaited};

@@ -1,3 +1,6 @@
+//! What a machine is asked about its clocks and a socket on 127.0.0.1, one call of the system at a time, and what is
+//! told of each call.
+
 ghost use Rattle.std.specs.Prelude.{◌≤◌, [], ◌∷◌, List, Option, length, IfOk};
 ghost use Rattle.edges.specs.Asking.{Does, failure_of};
 ghost use Rattle.edges.specs.WireCalls.{WireCall, Bound, Limited, Received, Sent, WallRead, SteadyRead, arrived, wall_nanos, steady_nanos};

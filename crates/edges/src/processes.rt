@@ -1,3 +1,6 @@
+//! What a machine is asked about a child process, one call of the system at a time, and how the end of a child is
+//! seen.
+
 ghost use Rattle.std.specs.Prelude.{◌≡◌, [], ◌∷◌, Bool, IfSome, List, Option};
 ghost use Rattle.edges.specs.Asking.{Does, failure_of};
 ghost use Rattle.edges.specs.ChildCalls.{ChildCall, Started, Asked, Killed, Waited, Printed, start_of, printed};

@@ -1,3 +1,6 @@
+//! Child processes in memory, for tests: a script that keeps the rows of a host, and hooks that succeed unless a call
+//! is to fail.
+
 use crate::failing::Failing;
 use edges::{Children, Watch};
 use std::alloc::{AllocError, Global};

@@ -1,3 +1,5 @@
+//! Failures planned for a device in memory: which of its calls, counted from the first, give an error, and which one.
+
 use std::io::ErrorKind;
 
 /// How many calls of one device fail at most.

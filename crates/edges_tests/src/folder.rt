@@ -1,3 +1,6 @@
+//! A folder of files in memory, which stands for the disk in tests: it takes and gives a few bytes at a time, and
+//! chosen calls of it fail.
+
 use crate::failing::Failing;
 use edges::Disk;
 use std::alloc::{AllocError, Global};

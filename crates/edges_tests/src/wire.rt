@@ -1,3 +1,6 @@
+//! A loopback socket and its clock in memory, for tests: a DHCPv4 server answers on it, strangers send to it as well,
+//! and after a while it brings a stop.
+
 ghost use Rattle.std.specs.Prelude.{◌<◌, ◌^◌};
 
 use crate::failing::Failing;

@@ -1,3 +1,6 @@
+//! Which addresses are promised a basis: each that the client wants, and each that a host which tells its rows holds
+//! on managed interfaces where no host call failed; and what a basis needs, and when it ends.
+
 ghost use Rattle.std.specs.Prelude.{◌≡◌, ◌∷◌, List, [], true};
 ghost use Rattle.world.specs.RowOrder.{has_row};
 ghost use Rattle.world.specs.declared.rows.HostRow.TheVariants.{Addr};

@@ -1,3 +1,6 @@
+//! ARP packets for IPv4 over Ethernet: requests and replies are read from a frame's body, and requests to all hosts
+//! are spelled as whole frames.
+
 ghost use Rattle.std.specs.Prelude.{◌≡◌};
 ghost use Rattle.frame_link.specs.Packets as texts;
 

@@ -1,3 +1,5 @@
+//! Heard Ethernet frames, taken apart into the addresses and the kind in their header, and the body that follows it.
+
 ghost use Rattle.std.specs.Prelude.{◌≡◌};
 ghost use Rattle.std.specs.Option.{option_map};
 ghost use Rattle.frame_link.specs.Frames.{frame_in, shown};

@@ -1,3 +1,5 @@
+//! What the supervisor of hook children answers: that a job was dropped, or what is to be done next about the child.
+
 use world::HookJob;
 
 /// A job that was put where no more may wait. It never starts.

@@ -1,3 +1,5 @@
+//! The running process of a hook: the job that it does, and since when.
+
 /// The child that runs.
 #[derive(Clone, Copy, PartialEq, Eq)]
 pub struct Child {

@@ -1,3 +1,6 @@
+//! The promises of a turn over a host that tells its rows: what is known of them stays true, those of other
+//! interfaces stay, and the managed ones are as wanted where no call fails, as none does once failures are past.
+
 ghost use Rattle.host_model.specs.HostLaws.{OfTrueTables, StaysTrue, OthersStay, IsReached, Recovers};
 
 /// Law of one turn over a host that tells its rows and which of its calls fail. What is known of the rows stays true;

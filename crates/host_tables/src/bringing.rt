@@ -1,3 +1,6 @@
+//! An address or route together with the place that brings it, in an order in which rivals for one target stand side
+//! by side, the one that is kept first.
+
 ghost use Rattle.std.specs.Prelude.{◌≡◌};
 ghost use Rattle.std.specs.Cmp.{partial_order_from_total, partial_equiv_from_equiv};
 ghost use Rattle.std.specs.Cmp.Rules.{comparing};

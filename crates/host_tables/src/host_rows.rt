@@ -1,3 +1,5 @@
+//! A list of addresses and routes, each of them one that a host can hold, in the order in which they are brought.
+
 ghost use Rattle.std.specs.Prelude.{◌≡◌, ◌↔◌, [], ◌∷◌, ◌++◌, true, OnOk};
 ghost use Rattle.std.specs.List.{AllByRecursion};
 ghost use Rattle.world.specs.Rows.{IsRow};
@@ -26,6 +28,7 @@ impl Model for HostRows {
 }
 
 impl HostRows {
+    /// No row.
     pub fn new(alloc: Global) -> HostRows
         ensures { result ≡ [] }
     {
@@ -34,6 +37,7 @@ impl HostRows {
         }
     }
 
+    /// Puts a row at the end; refused for want of memory alone, when nothing changed.
     pub fn push(&mut self, row: HostRow) -> Result<(), AllocError>
         requires { IsRow row }
         ensures { OnOk result (self.new ≡ self.old ++ row ∷ []) }
@@ -42,6 +46,7 @@ impl HostRows {
         Ok(())
     }
 
+    /// The rows, in the order in which they came.
     pub fn as_slice(&self) -> &[HostRow]
         ensures rows { result.now ≡ self.now }
         ensures fit { AllByRecursion IsRow result.now }

@@ -1,3 +1,6 @@
+//! The addresses and routes that each place brings, as an interface is one, and what a host is to hold of them all,
+//! kept up to date as one place after another changes.
+
 ghost use Rattle.std.specs.Prelude.{◌≡◌, ◌<◌, ◌≤◌, ◌+◌, ℕ, [], ◌∷◌, ◌++◌, length, slice_index_or, slice_set, OnOk, OnErr, IfOk};
 ghost use Rattle.std.specs.List.{AllByRecursion};
 ghost use Rattle.world.specs.Rows.{IsRow};

@@ -83,6 +83,7 @@ impl Room {
 }
 
 impl Union {
+    /// The union of nothing.
     #[tactic(auto, using(counted_search::proofs::Edits::sorted_none))]
     pub fn new(alloc: Global) -> Union
         ensures { Unites [] result }

@@ -1,3 +1,6 @@
+//! What is given for an interface at the start of a life: its settings, the host's DHCP unique identifier, and the
+//! leases that were kept.
+
 use lease_text::Lease4;
 use lease6_text::Lease6;
 use settings::Managed;

@@ -1,3 +1,6 @@
+//! What the client is given in a turn: the time, a random word, the interfaces whose frames were refused, and what
+//! came.
+
 use net_types::Ip6;
 
 /// What a turn brings beside the passing of time.

@@ -1,3 +1,6 @@
+//! A turn of one interface: a failed send begins anew, the protocol machines that are due act, and then what came is
+//! handed to those that it concerns.
+
 ghost use Rattle.std.specs.Prelude.{◌≡◌, ◌==◌, OnOk, true};
 ghost use Rattle.net_types.specs.Moments.{IsMoment};
 ghost use Rattle.machine.specs.Moment.{is_due};

@@ -1,3 +1,6 @@
+//! The promises of link-local addresses: they are chosen in range, held only once probed and while no two conflicts
+//! came close together, and after many conflicts the next choice waits.
+
 ghost use Rattle.ipv4ll.specs.Laws.{ChoosesInRange, HoldsProbed, WaitsFromTenConflicts};
 
 /// Law: every chosen address lies in 169.254.1.0 to 169.254.254.255 (RFC 3927, section 2.1).

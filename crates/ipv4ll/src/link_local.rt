@@ -1,3 +1,6 @@
+//! The state machine of an interface's IPv4 link-local address: it waits for a lease, chooses an address, has it
+//! probed and defended, and chooses again after a conflict.
+
 ghost use Rattle.std.specs.Prelude.{◌≡◌};
 ghost use Rattle.machine.specs.Moment.{moment_of};
 ghost use Rattle.ipv4ll.specs.Choice.{choice_of};

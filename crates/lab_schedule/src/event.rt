@@ -1,3 +1,5 @@
+//! What can happen in a lab, one event at a time: to its clients, or to the peer that they talk with.
+
 use net_types::IfIndex;
 
 /// What comes next in a lab. Moments are in milliseconds since 1970; a salt is the random word of a turn.

@@ -1,3 +1,6 @@
+//! All that a lab is to live through: the configuration, the interfaces, what the peer gives out, the beginning, and
+//! the events that follow.
+
 use crate::event::LabEvent;
 use lab_peer::Pool;
 use net_types::IfSpec;

@@ -1,3 +1,6 @@
+//! The removal of asides from the store, in which files are written before they are put in their place; no other file
+//! is changed.
+
 ghost use Rattle.std.specs.Prelude.{◌≡◌, ◌≤◌, ◌<◌, [], ◌∷◌, true, false, None, Some, IfErr, IfOk, IfSome, IsSome, map, option_map};
 ghost use Rattle.std.specs.List.{AllByRecursion};
 ghost use Rattle.std.specs.String.{string_bytes};

@@ -1,3 +1,5 @@
+//! Why files could not be kept: which call of the store failed, or that memory ran out.
+
 ghost use Rattle.std.specs.Prelude.{◌≡◌};
 ghost use Rattle.lease_file.specs.declared.faults.SaveFault.TheVariants as fault;
 

@@ -1,3 +1,6 @@
+//! The reading of files from the store, one after another, where a file that is missing or can't be read doesn't stop
+//! the rest.
+
 ghost use Rattle.std.specs.Prelude.{true, length, map, ◌<◌, ◌≡◌, ◌≤◌, IfOk};
 ghost use Rattle.std.specs.List.{AllByRecursion};
 ghost use Rattle.world.specs.FileNames.{IsFileName};

@@ -1,3 +1,6 @@
+//! The laws that a granted DHCPv4 lease stays held where turns come in time, the carrier stays, servers answer in
+//! time without refusing, no host contests it and each lease is long enough; and that these premises can be met.
+
 ghost use Rattle.lease_keeping.specs.KeptLives.{ReboundLife, RenewedLife};
 ghost use Rattle.lease_keeping.specs.LeaseKept.{HoldsMeanwhile};
 ghost use Rattle.lease_progress.specs.LeaseStays.{StaysHeld};

@@ -1,3 +1,6 @@
+//! The law that, over devices that tell what they hold and which of their calls fail, each address shown of a managed
+//! interface has its basis in the lines of its life, unless a call of the host failed in that turn.
+
 ghost use Rattle.life_audit.specs.Laws.{HeardBasisIn, HeldBasis, LinesRestOnEvidence, meets_all, meets_told};
 
 /// Law: over devices that tell what they hold and which of their calls fail, what the lines of a life show of the

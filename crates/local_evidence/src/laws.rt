@@ -1,3 +1,6 @@
+//! The laws that a link-local address has a basis only after three probes, only within the range for such addresses,
+//! and no longer once another address is announced in its place.
+
 ghost use Rattle.local_evidence.specs.LinkLocalBasis.{EndsByAnother, NeedsItsRange, NeedsThreeProbes};
 
 /// Law: no link-local address has a basis before the link took three probes for it (RFC 5227, section 2.1.1).

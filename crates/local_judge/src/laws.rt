@@ -1,3 +1,6 @@
+//! The laws that what is kept turn by turn tells exactly how long ago an address was probed up to three times, and
+//! whether it has the basis of a link-local address.
+
 ghost use Rattle.local_judge.specs.Judge.{ChosenHaveBases};
 ghost use Rattle.local_judge.specs.Laws.{ChoicesAreTold, ProbesAreTold};
 

@@ -1,3 +1,6 @@
+//! The law that a timed machine, ticked before its due moment or while it waits for none, neither changes nor says
+//! anything.
+
 ghost use Rattle.std.specs.Prelude.{◌≡◌, ℕ, false};
 ghost use Rattle.machine.specs.Moment.{is_due};
 

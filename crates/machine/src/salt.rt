@@ -1,3 +1,5 @@
+//! The numbers and transaction ids that are derived from a turn's random word and the number of an interface.
+
 ghost use Rattle.std.specs.Prelude.{◌≡◌, ◌≢◌, ◌<◌, IfSome};
 ghost use Rattle.machine.specs.Draw.{draw_of, draw_xid_of};
 

@@ -1,3 +1,5 @@
+//! What a machine that acts at moments of its own promises to the loop that drives it, and the limit of such moments.
+
 ghost use Rattle.std.specs.Prelude.{◌≡◌, ℕ, Option, false};
 ghost use Rattle.machine.specs.Moment.{is_due, moment_of};
 

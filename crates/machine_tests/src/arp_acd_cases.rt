@@ -1,3 +1,5 @@
+//! Test cases of IPv4 address conflict detection: probing, announcing, and what follows a conflict (RFC 5227).
+
 use arp_acd::{Acd, AcdSays, acd_addr, acd_begin, acd_heard, acd_held, acd_unsent};
 use frame_link::ArpView;
 use machine::{Machine, early_ticks_rest};

@@ -1,3 +1,5 @@
+//! Test cases of sorted lists of keys: what searches and changes give, and that each comparison is counted as a step.
+
 use crate::compared::{counted, key};
 use counted_search::{Counted, Plain, Steps, add, beyond, find, first_from, take_out};
 use std::cell::Cell;

@@ -1,3 +1,6 @@
+//! Test cases of the supervision of hook scripts: how many jobs may wait, how long a child may run, and what follows
+//! a failed start.
+
 use hook_child::{
     Dropped, Supervisor, Turned, next_job, not_started, polled, put, running, supervisor_new,
     waiting,

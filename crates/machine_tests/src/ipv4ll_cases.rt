@@ -1,3 +1,6 @@
+//! Test cases of IPv4 link-local addresses: choosing, probing and defending one, and the time-out without a lease
+//! (RFC 3927).
+
 use arp_acd::ArpSay;
 use frame_link::ArpView;
 use ipv4ll::{

@@ -1,3 +1,5 @@
+//! Test cases of the numbers and transaction ids that come of a salt, and of the limit of moments.
+
 use machine::{LAST_MOMENT, clamp_moment, draw, draw_xid};
 use net_types::IfIndex;
 use std::rt::HostRuntime;

@@ -1,3 +1,6 @@
+//! Test cases of dividing a delegated IPv6 prefix among interfaces: what each gets, which faults are found, and how
+//! those are printed.
+
 ghost use Rattle.std.specs.Prelude.{◌≡◌};
 
 use net_types::{Ip6, Name, Net6};

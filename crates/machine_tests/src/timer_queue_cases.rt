@@ -1,3 +1,5 @@
+//! Test cases of a queue of timers: the order in which they come due, and how many comparisons its changes take.
+
 ghost use Rattle.std.specs.Prelude.{◌<◌, ◌≤◌, ◌+◌, ◌*◌};
 ghost use Rattle.std.specs.FinMap as map;
 

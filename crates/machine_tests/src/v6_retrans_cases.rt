@@ -1,3 +1,5 @@
+//! Test cases of the retransmission times of DHCPv6 messages, and of when retransmission ends (RFC 8415, section 15).
+
 use net_types::IfIndex;
 use std::test::*;
 use v6_retrans::parameters::{DECLINE, RENEW, REQUEST, SOLICIT};

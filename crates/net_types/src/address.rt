@@ -1,3 +1,5 @@
+//! IPv4, IPv6 and hardware addresses, and IP addresses with a prefix length.
+
 /// An IPv4 address as the number of its four bytes in network order (RFC 791).
 #[derive(Clone, Copy, Debug, PartialEq, Eq)]
 pub struct Ip4 {

@@ -1,3 +1,5 @@
+//! The faults that every layer shares: text that spells no value, memory that ran out, and a device call that failed.
+
 use thiserror::Error;
 
 /// No value spells the text.

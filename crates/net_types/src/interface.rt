@@ -1,3 +1,5 @@
+//! The number, the name and the hardware address of an interface, as the host knows them.
+
 use crate::address::Mac;
 
 /// The number of an interface, 1 to 64.

@@ -1,3 +1,5 @@
+//! What one interface is to get of a delegated IPv6 prefix: which subnet, and how long its prefix is.
+
 use net_types::Name;
 
 /// What an interface is to get of a delegated prefix.

@@ -1,3 +1,6 @@
+//! The laws that, each under its premises, link-local addresses are held in time and stay so, held addresses reach
+//! the host, and what is kept reaches its files; and that the link-local premises can be met.
+
 ghost use Rattle.std.specs.Prelude.{◌≡◌};
 ghost use Rattle.progress.specs.AddressesReach.{AlwaysReachesHost, OpeningReachesHost, TurnsReachHost};
 ghost use Rattle.progress.specs.FilesReach.{OpeningReachesFiles, TurnsReachFiles};

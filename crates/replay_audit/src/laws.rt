@@ -1,3 +1,6 @@
+//! The laws that a script's transcript has the lines of what the script tells, and that each address it shows, save
+//! where a call of the host failed, has its basis: an audit says yes to what `replay` writes.
+
 ghost use Rattle.life_audit.specs.Laws.{HeardBasisIn, HeldBasis};
 ghost use Rattle.replay_audit.specs.Laws.{LinesAreTold, LivesAreJustified, ReplaysAreJustified, TranscriptsAreJustified};
 

@@ -129,6 +129,7 @@ impl Model for UnlikeRows {
 }
 
 impl UnlikeRows {
+    /// No row.
     pub fn new(alloc: Global) -> UnlikeRows
         ensures { result ≡ [] }
     {
@@ -138,6 +139,7 @@ impl UnlikeRows {
         }
     }
 
+    /// Whether there is none.
     pub fn is_empty(&self) -> bool
         ensures { result ≡ none_of self.now }
     {
@@ -158,6 +160,7 @@ impl UnlikeRows {
         Ok(Some(UnlikeRows { rows, seen }))
     }
 
+    /// The rows, in their order.
     pub fn into_vec(self) -> Vec<HostRow>
         ensures { result.items ≡ self }
     {
@@ -187,6 +190,7 @@ impl Model for UnlikeFiles {
 }
 
 impl UnlikeFiles {
+    /// No file.
     pub fn new(alloc: Global) -> UnlikeFiles
         ensures { result ≡ [] }
     {
@@ -196,6 +200,7 @@ impl UnlikeFiles {
         }
     }
 
+    /// Whether there is none.
     pub fn is_empty(&self) -> bool
         ensures { result ≡ none_of self.now }
     {
@@ -220,6 +225,7 @@ impl UnlikeFiles {
         Ok(Some(UnlikeFiles { files, names }))
     }
 
+    /// The files, in their order.
     pub fn into_vec(self) -> Vec<FileLine>
         ensures { map file_of result.items ≡ self }
     {

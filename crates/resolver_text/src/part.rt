@@ -1,3 +1,5 @@
+//! What one lease or one static address tells the resolver: its name servers and search names, and where these rank.
+
 use net_types::{IfIndex, Ip4, Ip6, Name};
 
 /// The protocol that a part comes from.

@@ -1,3 +1,5 @@
+//! Reading and printing the addresses and routes of a host as text; a text stands for one of them at most.
+
 ghost use Rattle.std.specs.Prelude.{◌≡◌, ◌++◌, ℕ, List, option_map, IfOk, IfErr, OnOk, OnErr};
 ghost use Rattle.std.specs.String.{string_bytes};
 ghost use Rattle.net_types.specs.Cutting.{field_at};

@@ -1,3 +1,5 @@
+//! The failures that a script can ask for: one call of one device, counted from the first.
+
 /// A device some of whose calls a script lets fail.
 #[derive(Clone, Copy, PartialEq, Eq)]
 pub enum FailDevice {

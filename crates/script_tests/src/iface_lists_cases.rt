@@ -1,3 +1,5 @@
+//! Test cases of interfaces that are to differ from each other in name and in hardware address.
+
 use iface_lists::*;
 use net_types::{IfIndex, IfSpec, mac_of, name_of};
 use std::test::*;

@@ -1,3 +1,5 @@
+//! Test cases of the command line for running on a real machine: words that are read, and words that are refused.
+
 use live_words::*;
 use net_types::{IfIndex, IfSpec, Mac, name_of};
 use std::test::*;

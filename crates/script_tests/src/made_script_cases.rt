@@ -1,3 +1,5 @@
+//! Test cases of the generated script for measurements: how many interfaces and turns it has, and that its text fits.
+
 use made_script::*;
 use std::test::*;
 

@@ -1,3 +1,5 @@
+//! Test cases of reading scripts and the rows in them: what is accepted, and why the rest is refused.
+
 use net_types::{IfIndex, Ip4, Ip6, Net, Net4};
 use replay_text::ScriptCause::{Form, NotText, Order, Word};
 use replay_text::*;

@@ -1,3 +1,5 @@
+//! A test case of the counts that sum up a transcript by the first words of its lines.
+
 use std::test::Fail;
 use transcript_summary::summary;
 

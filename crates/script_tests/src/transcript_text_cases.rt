@@ -1,3 +1,5 @@
+//! A test case of printing the lines of a transcript, for those lines that no example has.
+
 use net_types::{IfIndex, Ip6, Net, Net6};
 use std::str;
 use std::test::Fail;

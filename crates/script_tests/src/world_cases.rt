@@ -1,3 +1,5 @@
+//! Test cases of the order of a host's addresses and routes, and of the words for the reasons that hooks are told.
+
 use net_types::{IfIndex, Ip4, Ip6, Net, Net4, Net6};
 use world::{HostRow, Reason, Via, reason_text};
 

@@ -1,3 +1,5 @@
+//! Test cases of the devices in memory: a few calls to each, which have the memory they need.
+
 ghost use Rattle.world.specs.Rows.{IsRow};
 
 use net_types::{IfIndex, Ip4, Net, Net4};

@@ -1,3 +1,5 @@
+//! The settings of one managed interface: which protocols run on it and how, and what is configured by hand.
+
 ghost use Rattle.std.specs.Prelude.{◌≡◌, IfOk};
 
 use crate::dhcp4_conf::Dhcp4Conf;

@@ -1,3 +1,5 @@
+//! The interface that addresses and routes are given to, and the metric of those routes.
+
 use net_types::IfIndex;
 
 /// By where the rows of an interface lead: the interface, and the metric of its routes.

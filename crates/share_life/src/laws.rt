@@ -1,3 +1,6 @@
+//! The law that in one written life a delegated prefix gives another interface its address:
+//! it is wanted, the host holds it, and it has its basis.
+
 ghost use Rattle.std.specs.Prelude.{◌≡◌, true};
 ghost use Rattle.world.specs.RowOrder.{has_row};
 ghost use Rattle.world.specs.declared.rows.HostRow.TheVariants.{Addr};

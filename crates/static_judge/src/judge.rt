@@ -1,3 +1,5 @@
+//! Judging turn by turn whether a configured address stands: the interface has carrier, and no stop was asked for.
+
 ghost use Rattle.std.specs.Prelude.{◌≡◌, ◌∷◌, [], List};
 ghost use Rattle.evidence_words.specs.Entries as told;
 ghost use Rattle.evidence_words.specs.Inputs.{is_stop};

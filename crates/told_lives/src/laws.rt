@@ -1,3 +1,6 @@
+//! The law that a life of fewer than 2^64 lines, its devices and what it asks of them being within bounds, is told in
+//! lines that may stand in a transcript, and leaves its devices within their bounds.
+
 ghost use Rattle.told_lives.specs.Laws.{LivesAreWellTold};
 
 /// Law: over devices that tell what they hold and which of their calls fail, what they hold and what comes being within

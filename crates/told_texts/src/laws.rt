@@ -1,3 +1,6 @@
+//! The law that a configuration and lives in their shape, what hooks are told being printable, are spelled by the
+//! texts of their lines.
+
 ghost use Rattle.told_texts.specs.Laws.{ToldIsSpelled};
 
 /// Law: where the lines of a configuration have it, lives have their shape, each line after the head is one that may

@@ -1,3 +1,6 @@
+//! The parts that lines play in the shape of a transcript: its head, its interfaces, and its lives with their turns
+//! and rows.
+
 use net_types::IfSpec;
 use world::HostRow;
 

@@ -1,3 +1,5 @@
+//! How many lines of each counted kind a transcript has, written out as its summary.
+
 ghost use Rattle.std.specs.Prelude.{◌≡◌, ◌++◌, ◌≤◌, length, map, OnOk, IfOk};
 ghost use Rattle.transcript_summary.specs.Summaries.{lines_of, counted, numbered_line, summary_of, summary};
 

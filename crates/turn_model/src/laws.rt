@@ -1,3 +1,6 @@
+//! Laws of a life: which rows the host has and what files hold from its opening on, that hooks change neither, that
+//! files stay in order, that unlike interfaces have unlike names, and that each begins with its own lease or none.
+
 ghost use Rattle.turn_model.specs.HooksApart.{HooksChangeNothing, WaitsByHooks};
 ghost use Rattle.turn_model.specs.FilesInLife.{LeavesFilesInOrder, OpeningKeepsFiles, TurnsKeepFiles, UnlikeAreNamedApart};
 ghost use Rattle.turn_model.specs.HostInLife.{OpeningHoldsWanted, TurnsHoldWanted, OthersStay};

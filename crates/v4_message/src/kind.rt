@@ -2,20 +2,28 @@
 ghost use Rattle.std.specs.Prelude.{◌≡◌};
 ghost use Rattle.v4_message.specs.Kinds.{kind_with};
 
+/// A client looks for servers (RFC 2131, section 3.1).
 pub const DISCOVER: u8 = 1;
 
+/// A server offers an address.
 pub const OFFER: u8 = 2;
 
+/// A client asks for an address, or for more time.
 pub const REQUEST: u8 = 3;
 
+/// A client found its address in use.
 pub const DECLINE: u8 = 4;
 
+/// A server commits a lease.
 pub const ACK: u8 = 5;
 
+/// A server refuses a client's notion of its address.
 pub const NAK: u8 = 6;
 
+/// A client gives its address back.
 pub const RELEASE: u8 = 7;
 
+/// A client that has an address asks for parameters alone.
 pub const INFORM: u8 = 8;
 
 /// The type of a message.

@@ -15,6 +15,7 @@ use v6_options::Duid;
 /// 21.24).
 pub const LEAST_SOL_MAX: u32 = 60;
 
+/// The most seconds, beside `LEAST_SOL_MAX`.
 pub const MOST_SOL_MAX: u32 = 86_400;
 
 /// The transaction id of the exchange whose answer counts.

@@ -22,6 +22,7 @@ pub const LEAST_TIME: u64 = 10_000;
 /// when they are rebound (RFC 8415, section 14.2).
 pub const T1_PART: u64 = 500;
 
+/// The part for rebinding, beside `T1_PART`.
 pub const T2_PART: u64 = 800;
 
 /// The delay of the first SOLICIT.

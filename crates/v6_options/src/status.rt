@@ -29,6 +29,7 @@ impl Status {
     /// The server has no prefix for the IA.
     pub const NO_PREFIX_AVAIL: Status = Status { number: 6 };
 
+    /// Whether the status says success (RFC 8415, section 21.13).
     pub fn is_success(self) -> bool
         ensures { result ≡ (self.number == success) }
     {

@@ -44,30 +44,35 @@ pub struct Parameters {
     pub mrc: u32,
 }
 
+/// Of SOLICIT: without an end (RFC 8415, section 18.2.1).
 pub const SOLICIT: Parameters = Parameters {
     irt: SOL_TIMEOUT,
     mrt: SOL_MAX_RT,
     mrc: 0,
 };
 
+/// Of REQUEST: ten times (RFC 8415, section 18.2.2).
 pub const REQUEST: Parameters = Parameters {
     irt: REQ_TIMEOUT,
     mrt: REQ_MAX_RT,
     mrc: REQ_MAX_RC,
 };
 
+/// Of RENEW: until T2 (RFC 8415, section 18.2.4).
 pub const RENEW: Parameters = Parameters {
     irt: REN_TIMEOUT,
     mrt: REN_MAX_RT,
     mrc: 0,
 };
 
+/// Of REBIND: until the last lifetime ends (RFC 8415, section 18.2.5).
 pub const REBIND: Parameters = Parameters {
     irt: REB_TIMEOUT,
     mrt: REB_MAX_RT,
     mrc: 0,
 };
 
+/// Of DECLINE: four times (RFC 8415, section 18.2.8).
 pub const DECLINE: Parameters = Parameters {
     irt: DEC_TIMEOUT,
     mrt: 0,

@@ -1,3 +1,5 @@
+//! The retransmission of an unanswered DHCPv6 message: the time until the next, and the count at which it fails.
+
 ghost use Rattle.std.specs.Prelude.{◌≡◌, ◌≤◌, ◌<◌, ◌^◌};
 ghost use Rattle.v6_retrans.specs.Retransmission as times;
 

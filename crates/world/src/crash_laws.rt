@@ -1,3 +1,6 @@
+//! Laws of a store's record of calls: it stays sound, what the store reads and what undoing all that isn't settled
+//! gives are images that a crash may leave, and settling leaves a synced file just as it reads.
+
 ghost use Rattle.std.specs.Prelude.{List};
 ghost use Rattle.world.specs.NamedLists.{InNameOrder};
 ghost use Rattle.world.specs.FileLists.{StoreFile, file_name};

@@ -1,3 +1,5 @@
+//! Hook scripts as the daemon sees them: what each run is given, and the device that runs them one at a time.
+
 ghost use Rattle.std.specs.Prelude.{◌≡◌, ◌≤◌, ◌++◌, ℕ, Bool, true, false, Option, List, map, IfOk, OnOk};
 ghost use Rattle.world.specs.Causes.{HasCause, HasDeviceCause, Foretold};
 ghost use Rattle.world.specs.HookCalls.{variable_of};

@@ -1,3 +1,5 @@
+//! The device that holds the host's addresses and routes: how they are read and changed, and what is known of that.
+
 ghost use Rattle.std.specs.Prelude.{◌≡◌, ℕ, Option, List};
 ghost use Rattle.world.specs.Causes.{HasDeviceCause, Foretold};
 ghost use Rattle.world.specs.HostCalls.{HostTold, host_number, Lists, Adds, Removes};

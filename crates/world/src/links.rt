@@ -1,3 +1,5 @@
+//! The device by which frames come in and go out, time passes, and carrier changes and signals reach the daemon.
+
 ghost use Rattle.std.specs.Prelude.{◌≡◌, ◌≤◌, ℕ, Option, List, length, IfOk, IfSome, IsOk};
 ghost use Rattle.world.specs.Causes.{HasCause, HasDeviceCause, Foretold};
 ghost use Rattle.world.specs.LinkCalls.{LinkTold, frame_len, Begins, Waits, Offers, wait_number, send_number};

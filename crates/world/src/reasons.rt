@@ -1,3 +1,5 @@
+//! Why hook scripts are run, and the words that tell them so.
+
 ghost use Rattle.std.specs.Prelude.{◌≡◌};
 ghost use Rattle.world.specs.Reasons.{reason_word};
 

@@ -1,3 +1,6 @@
+//! Laws of the order of the host's rows: only equal rows compare as equal, and putting rows in order neither loses
+//! nor adds any, and leaves those in order as they are.
+
 ghost use Rattle.std.specs.Prelude.{◌≡◌, List};
 ghost use Rattle.std.specs.declared.cmp.Ordering.TheVariants.{Equal};
 ghost use Rattle.std.specs.List.Sorted.{IsStrictlySortedBy};

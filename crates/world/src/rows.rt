@@ -1,3 +1,5 @@
+//! The rows of the host's tables, which are its addresses and routes, and their total order.
+
 ghost use Rattle.std.specs.Prelude.{◌≡◌};
 ghost use Rattle.std.specs.Cmp.{partial_order_from_total, partial_equiv_from_equiv};
 ghost use Rattle.std.specs.Cmp.Rules.{comparing};

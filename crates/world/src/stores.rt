@@ -1,3 +1,5 @@
+//! The device that keeps the daemon's files from one life to the next, and what its calls make of them.
+
 ghost use Rattle.std.specs.Prelude.{◌≡◌, ℕ, Option, map, OnErr};
 ghost use Rattle.std.specs.String.{string_bytes};
 ghost use Rattle.world.specs.Causes.{HasDeviceCause};

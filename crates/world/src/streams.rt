@@ -1,3 +1,5 @@
+//! Streams of bytes, in and out: what is known of their bytes, their calls and their failures.
+
 ghost use Rattle.std.specs.Prelude.{◌≡◌, ◌≤◌, ℕ, Bool, true, Option, List, length, IfOk};
 ghost use Rattle.world.specs.Causes.{HasCause, HasDeviceCause};
 ghost use Rattle.world.specs.Streams.{Reads, Writes, count_after, taken_after};

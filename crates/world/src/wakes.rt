@@ -1,3 +1,5 @@
+//! What starts a life of the daemon and what wakes it afterwards, each with its moment and a random word.
+
 use net_types::Ip6;
 
 /// How a life of the daemon begins.

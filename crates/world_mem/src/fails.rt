@@ -1,3 +1,5 @@
+//! The calls at which a store in memory is told to fail: those listed by number, and all past a fuse.
+
 ghost use Rattle.std.specs.Prelude.{◌≡◌};
 ghost use Rattle.world.specs.StoreFails.{fails_at, is_past};
 ghost use Rattle.world_mem.specs.Fuse.{first_stopped};

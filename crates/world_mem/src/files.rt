@@ -1,3 +1,5 @@
+//! The files of a store in memory, kept by name, and a type for the names that a file may have.
+
 ghost use Rattle.std.specs.Prelude.{◌≡◌, map, IfOk, IfErr, OnOk, OnErr, option_map};
 ghost use Rattle.std.specs.String.{string_bytes};
 ghost use Rattle.world.specs.FileNames.{IsFileName};

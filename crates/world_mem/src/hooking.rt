@@ -1,3 +1,5 @@
+//! A stand-in for hook scripts: nothing runs, jobs are recorded, and answers and failures are told beforehand.
+
 ghost use Rattle.std.specs.Prelude.{◌≡◌, map, IfOk, IfErr};
 ghost use Rattle.world.specs.HookCalls.{job_of, variable_of};
 ghost use Rattle.world_mem.specs.HookRecord.{hooks_start};

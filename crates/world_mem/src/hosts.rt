@@ -1,3 +1,5 @@
+//! A stand-in for the host's tables: rows held in memory, failures told beforehand, and a record of the calls.
+
 ghost use Rattle.std.specs.Prelude.{◌≡◌, [], ◌++◌, All, IfOk, OnOk, OnErr};
 ghost use Rattle.std.specs.BTreeSet.{IsOrdered};
 ghost use Rattle.world.specs.Rows.{IsRow};

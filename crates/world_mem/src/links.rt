@@ -1,3 +1,6 @@
+//! A stand-in for network interfaces, clock and signals: what comes and what fails is told beforehand, and waits and
+//! offered frames are recorded.
+
 ghost use Rattle.std.specs.Prelude.{◌≡◌, [], length, take, map};
 ghost use Rattle.world.specs.LinkCalls.{frame_len, cut_wake};
 ghost use Rattle.world_mem.specs.LinkRecord.{given_of, link_start};

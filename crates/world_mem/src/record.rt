@@ -1,3 +1,5 @@
+//! What the devices in memory share: records of calls, numbers of calls that fail, and copies that may want memory.
+
 ghost use Rattle.std.specs.Prelude.{◌≡◌, ◌+◌, ◌<◌, ◌≤◌, [], ◌∷◌, ◌++◌, length, take, min, IfOk, IfErr, IsOk, IsErrAnd, OnOk, vec_len};
 ghost use Rattle.std.specs.String.{string_bytes};
 ghost use Rattle.std.specs.Vec.{vec_capacity};

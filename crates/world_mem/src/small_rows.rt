@@ -1,3 +1,5 @@
+//! A compact form of the host's rows, short for most of IPv4, for records that hold many of them.
+
 ghost use Rattle.std.specs.Prelude.{◌≡◌, IfOk, IfErr};
 ghost use Rattle.world_mem.specs.RowForms.{row_of};
 

@@ -1,3 +1,5 @@
+//! A stand-in for the store of files: files held in memory, failures and crashes as told, and a record of the calls.
+
 ghost use Rattle.std.specs.Prelude.{◌≡◌, ◌+◌, ◌<◌, length, vec_len, [], ◌∷◌, ◌++◌, List, String, map, filter, All, IfOk, IfErr, OnOk, OnErr};
 ghost use Rattle.std.specs.Global.{Global as Heap};
 ghost use Rattle.std.specs.String.{string_bytes};

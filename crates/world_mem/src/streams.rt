@@ -1,3 +1,5 @@
+//! Input from bytes in memory and output into memory, which fail at the calls told beforehand.
+
 ghost use Rattle.std.specs.Prelude.{◌≡◌, ◌≤◌, [], true, Some, length, IfOk};
 ghost use Rattle.world.specs.Causes.{HasCause, HasDeviceCause};
 ghost use Rattle.world.specs.Streams.{Reads, Writes, count_after, taken_after};

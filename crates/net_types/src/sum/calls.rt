@@ -1,3 +1,5 @@
+//! Computing and checking the Internet checksum of bytes that come in pieces (RFC 1071).
+
 ghost use Rattle.std.specs.Prelude.{◌≡◌, ℕ, ◌%◌, ◌≤◌, ◌++◌, ◌==◌, false, length, List, []};
 ghost use Rattle.net_types.specs.Sum.{IsSumOf, checksum};
 ghost use Rattle.net_types.specs.Sum as words;
