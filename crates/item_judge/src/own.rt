@@ -2,7 +2,6 @@
 
 ghost use Rattle.std.specs.Prelude.{◌≡◌, [], ◌∷◌, List, map, IfOk};
 ghost use Rattle.std.specs.Option.{option_map};
-ghost use Rattle.lease6_text.specs.LineParts.{is_same_kind};
 ghost use Rattle.v6_options.specs.IaViews.{ia_shown, ias_left};
 ghost use Rattle.v6_message.specs.ReadBack.{asked_in};
 ghost use Rattle.v6_client.specs.Asking.{hinted};
@@ -19,7 +18,7 @@ use net_types::{Ip6, Net6, NoMemory};
 use own_frames6::{SaidView, SentView, sent6_of};
 use settings::{IaConf, Managed};
 use std::alloc::Global;
-use v6_client::IaAsk;
+use v6_client::{IaAsk, is_same_kind};
 use v6_message::Kind6;
 use v6_options::{IaKind, IaView, IaViews, ia_views};
 
@@ -41,15 +40,6 @@ fn may_name(kind: Kind6, server: Option<&[u8]>) -> bool
         Kind6::Solicit | Kind6::Rebind => server.is_none(),
         Kind6::Request => server.is_some(),
         Kind6::Renew | Kind6::Release | Kind6::Decline => true,
-    }
-}
-
-pub(crate) fn is_same_kind(one: IaKind, other: IaKind) -> bool
-    ensures { result ≡ is_same_kind one other }
-{
-    match (one, other) {
-        (IaKind::Na, IaKind::Na) | (IaKind::Pd, IaKind::Pd) => true,
-        (IaKind::Na, IaKind::Pd) | (IaKind::Pd, IaKind::Na) => false,
     }
 }
 

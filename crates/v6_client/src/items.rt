@@ -46,7 +46,8 @@ pub(crate) fn has_net(items: &[Item6], net: Net6) -> bool
     items.iter().any(|item| is_same_net(net, *item))
 }
 
-pub(crate) fn is_same_kind(one: IaKind, other: IaKind) -> bool
+/// Whether two IAs are of one kind: both of addresses, or both of prefixes.
+pub fn is_same_kind(one: IaKind, other: IaKind) -> bool
     ensures { result ≡ is_same_kind one other }
 {
     match (one, other) {

@@ -69,8 +69,8 @@ fn prefix_cleared(net: Net6) -> Net6
     }
 }
 
-/// The item as it is read.
-fn read_item(kind: IaKind, said: ItemSaid) -> Option<ItemSaid>
+/// The item as it is read: none where it isn't, and a prefix without the bits past its length.
+pub fn read_item(kind: IaKind, said: ItemSaid) -> Option<ItemSaid>
     ensures { result ≡ reading.read_item kind said }
 {
     if !is_read(kind, said) {
@@ -92,7 +92,8 @@ fn are_ordered(t1: u32, t2: u32) -> bool
     !(t1 > t2 && t2 > 0)
 }
 
-fn is_readable(ia: IaView) -> bool
+/// Whether an IA may be read: its status says success, and its T1 isn't after its T2.
+pub fn is_readable(ia: IaView) -> bool
     ensures { result ≡ reading.is_readable (ia_shown ia.entry) }
 {
     ia.status().is_success() && are_ordered(ia.t1, ia.t2)
@@ -182,7 +183,8 @@ pub fn saids_of(alloc: Global, ia: Option<IaView>) -> Result<Vec<ItemSaid>, NoMe
     }
 }
 
-fn is_for(ask: IaAsk, ia: IaView) -> bool
+/// Whether an IA is of a kind and an IAID.
+pub fn is_for(ask: IaAsk, ia: IaView) -> bool
     ensures { result ≡ reading.is_for ask (ia_shown ia.entry) }
 {
     is_same_kind(ia.kind, ask.kind) && ia.iaid == ask.iaid

@@ -3,6 +3,7 @@
 
 mod kind;
 mod laws;
+pub mod parts;
 mod reading;
 mod said;
 mod writing;
