@@ -25,16 +25,17 @@ fn is_at<J: Judge + Drop>(watched: &[Watched<J>], place: usize, index: u32) -> b
     }
 }
 
-/// Where the interface of a number stands: first it is looked for where the last one stood, and behind that.
+/// Where the interface of a number stands. Rows are in order of their interfaces, so it is looked for behind where the
+/// last one stood, and then there.
 fn place_of<J: Judge + Drop>(watched: &[Watched<J>], last: usize, index: u32) -> Option<usize>
     ensures { IfSome result (λ place. place < length watched.now) }
 {
-    if is_at(watched, last, index) {
-        return Some(last);
-    }
     let next = last.saturating_add(1);
     if is_at(watched, next, index) {
         return Some(next);
+    }
+    if is_at(watched, last, index) {
+        return Some(last);
     }
     watched.iter().position(|one| one.is_of(index))
 }
