@@ -1,5 +1,5 @@
 -- Before its opening an interface keeps leases that have texts, whatever its files say.
-use Rattle.std.proofs.Common.{◌≡◌, ◌≢◌, ℕ, suc, ◌<◌, ◌≤◌, ◌^◌, List, [], ◌∷◌, length, map, Option, Some, None, IfSome, refl, sym, ap, subst, arith, lit≤}
+use Rattle.std.proofs.Common.{◌≡◌, ◌≢◌, ℕ, suc, ◌≤◌, List, [], ◌∷◌, length, map, Option, Some, None, IfSome, refl, sym, ap, subst, arith, lit≤}
 use Rattle.std.specs.List.{AllByRecursion, Contains}
 use Rattle.std.proofs.lemmas.List.Elements.{All-contains_itself, recursion_from_All}
 use Rattle.net_types.proofs.AllLaws.{all_both, all_mapped}
@@ -9,11 +9,9 @@ use Rattle.lease6_text.proofs.Apart.{Apart, apart_from, pairs_from}
 use Rattle.lease6_text.specs.Bounds.{FitsLease6, HasText6, IsDuid}
 use Rattle.lease6_text.specs.Leases.{Lease6Content}
 use Rattle.v4_client.specs.Clients as dhcp4
-use Rattle.v4_client.specs.Sound as sound4
 use Rattle.v6_client.specs.Bounds.{FitsAsks, ask_key}
 use Rattle.v6_client.specs.Clients as dhcp6
-use Rattle.v6_client.specs.Sound as sound6
-use Rattle.settings.specs.Dhcp6Settings.{FitsDhcp6, FitsIaConf, conf_key}
+use Rattle.settings.specs.Dhcp6Settings.{FitsIaConf, conf_key}
 use Rattle.settings.specs.Fitting.{AreManaged, FitsManaged}
 use Rattle.settings.specs.declared.dhcp6_conf.IaConf.{IaConf}
 use Rattle.settings.specs.declared.interfaces.Managed.{Managed}

@@ -1,10 +1,8 @@
 -- The DHCPv4 client of an interface keeps a lease within the bounds of its text over each call.
-use Rattle.std.proofs.Common.{◌≡◌, ℕ, ◌^◌, ◌<◌, ◌≤◌, List, Option, Some, None, IfSome, sym, subst, arith}
-use Rattle.std.specs.List.{AllByRecursion}
+use Rattle.std.proofs.Common.{ℕ, ◌^◌, ◌<◌, ◌≤◌, List, Option, Some, None, IfSome, sym, subst, arith}
 use Rattle.machine.specs.Moment.{is_due}
 use Rattle.net_types.proofs.CaseLaws.{gated}
 use Rattle.net_types.specs.AddressText.{FitsIp4, FitsMac}
-use Rattle.net_types.specs.Marks.{AreBytes}
 use Rattle.net_types.specs.Moments.{IsMoment}
 use Rattle.net_types.specs.declared.address.Ip4.{Ip4}
 use Rattle.net_types.specs.declared.address.Mac.{Mac}
@@ -20,7 +18,7 @@ use Rattle.v4_message.specs.declared.kind.MessageKind.TheVariants as kind
 use Rattle.v4_frames.specs.Heard.{HeardMessage}
 use Rattle.v4_client.specs.Answers.{ack_by, answer_of, answering, is_blacklisted, is_chosen, is_good_ack, is_good_offer, offer_by, offer_of, reply_by, reply_of, unless_blacklisted}
 use Rattle.v4_client.specs.Calls.{answer_to, arp_step, brought, carrier_step, heard_step, rebind_step, release_step, unsent_step}
-use Rattle.v4_client.specs.Clients.{ClientContent, held_of, held_terms, is_held, kept_terms, turn_of}
+use Rattle.v4_client.specs.Clients.{ClientContent, held_of, is_held, kept_terms, turn_of}
 use Rattle.v4_client.specs.Due.{due_of}
 use Rattle.v4_client.specs.Granting.{kept_values, terms_granted}
 use Rattle.v4_client.specs.History.{tick_step}
@@ -28,8 +26,6 @@ use Rattle.v4_client.specs.Messages.{Arrival}
 use Rattle.v4_client.specs.Moves.{kept_after, moved}
 use Rattle.v4_client.specs.Settings.{SettingsContent}
 use Rattle.v4_client.specs.Sound.{IsKept, IsSound, IsSoundStep}
-use Rattle.v4_client.specs.Steps.{rests}
-use Rattle.v4_client.specs.declared.states.Answer4.{Answer4}
 use Rattle.v4_client.specs.declared.states.Carrier.{Carrier}
 use Rattle.v4_client.specs.declared.states.Carrier.TheVariants.{Up, Down}
 use Rattle.v4_client.specs.declared.states.Exchange4.{Exchange4}
@@ -44,7 +40,6 @@ use Rattle.v4_client.proofs.SoundAnswers.{answer_fits}
 use Rattle.v4_client.proofs.SoundClients.{begin_fits, brought_sound, moved_sound, values_fit}
 use Rattle.v4_client.proofs.SoundSteps.{arp_sound, begin_sound, heard_sound, off_sound, rebind_sound, release_sound, rests_sound, tick_sound, unsent_fits, unsent_held}
 use Rattle.client_model.specs.Dhcp4Steps.{arrival_at}
-use Rattle.hook_env.specs.Situations.{HeldContent}
 use Rattle.client_model.specs.Jobs.{leased4}
 use Rattle.safe_texts.specs.ExactVariables.{FitsHeld}
 use Rattle.safe_texts.proofs.FrameOctets.{Values}

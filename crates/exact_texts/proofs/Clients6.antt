@@ -1,7 +1,6 @@
 -- The DHCPv6 client of an interface keeps a lease within the bounds of its text over each call.
-use Rattle.std.proofs.Common.{◌≡◌, ℕ, Bool, true, false, not, ◌&&◌, List, Option, Some, None, IfSome, sym, subst}
+use Rattle.std.proofs.Common.{◌≡◌, ℕ, not, ◌&&◌, Option, Some, None, IfSome, sym, subst}
 use Rattle.std.specs.List.{AllByRecursion}
-use Rattle.std.specs.Option.{option_map}
 use Rattle.machine.specs.Moment.{is_due}
 use Rattle.net_types.proofs.CaseLaws.{gated}
 use Rattle.net_types.specs.AddressText.{FitsMac}
@@ -22,11 +21,9 @@ use Rattle.v6_client.specs.Inputs.{duplicate_row}
 use Rattle.v6_client.specs.Moves as moves
 use Rattle.v6_client.specs.Moves.{declining_now, given_up, lapsed, missing, parting_at}
 use Rattle.v6_client.specs.Runs.{Turned6, answered, carrier_turned, contested_turned, hears_turned, rebind_turned, release_turned, rested, stepped, tick_turned}
-use Rattle.v6_client.specs.RunsStay.{AfterEach, AnyMessage}
 use Rattle.v6_client.specs.Settings.{SettingsContent}
 use Rattle.v6_client.specs.Sound.{IsSound}
 use Rattle.v6_client.specs.Ticks.{tick_row}
-use Rattle.v6_client.specs.declared.settings.IaAsk.{IaAsk}
 use Rattle.v6_client.specs.declared.states.Carrier6.{Carrier6}
 use Rattle.v6_client.specs.declared.states.Carrier6.TheVariants.{Up, Down}
 use Rattle.v6_client.specs.declared.states.Cause6.TheVariants.{Lapse, Duplicate}

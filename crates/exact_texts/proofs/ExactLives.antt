@@ -1,5 +1,5 @@
 -- In every life each job that is started or dropped has exact variables.
-use Rattle.std.proofs.Common.{◌≡◌, ℕ, ◌<◌, ◌^◌, List, [], ◌∷◌, ◌++◌, flat_map, map, max, Option, Some, None, sym, subst, ◌∙◌, arith}
+use Rattle.std.proofs.Common.{◌≡◌, ℕ, List, [], ◌∷◌, ◌++◌, flat_map, map, max, Option, None, sym, subst, ◌∙◌, arith}
 use Rattle.std.specs.List.{AllByRecursion}
 use Rattle.machine.specs.Moment.{moment_of}
 use Rattle.net_types.proofs.AllLaws.{all_join}
@@ -15,7 +15,6 @@ use Rattle.settings.specs.Fitting.{AreManaged}
 use Rattle.settings.specs.declared.interfaces.Managed.{Managed}
 use Rattle.conf_text.proofs.ConfFits.{settings_fit}
 use Rattle.client_model.specs.Clients.{ClientStep, rows_of}
-use Rattle.client_model.specs.IfaceSteps.{IfaceStep}
 use Rattle.client_model.specs.IfaceTurns.{iface_turned}
 use Rattle.client_model.specs.Interfaces.{opened}
 use Rattle.client_model.specs.KeptLeases.{Beginning}
@@ -32,7 +31,6 @@ use Rattle.turn_model.specs.Opening.{clearing, opening_asks, opening_step, outlo
 use Rattle.turn_model.specs.Turns.{Life, Outlook, acting, hosting, input_of, offering, outlook_with, step_of, stop_after, turn_asks, turn_moment}
 use Rattle.safe_texts.proofs.ProgramEnds as programs
 use Rattle.safe_texts.proofs.ProgramEnds.{Any, Ended, MakesSo, both_ends, done_ends, only_ends}
-use Rattle.safe_texts.specs.ConfiguredTexts.{IsConfiguredLife}
 use Rattle.safe_texts.specs.ResolverLines.{AreOctets}
 use Rattle.safe_texts.specs.SafeJobs.{job_in}
 use Rattle.exact_texts.proofs.Beginnings.{all_rest}

@@ -15,7 +15,6 @@ use Rattle.ipv4ll.specs.declared.link_local.LlNews.{LlNews}
 use Rattle.ipv4ll.specs.declared.link_local.LlNews.TheVariants as local
 use Rattle.v4_frames.specs.Heard.{HeardMessage, heard4_in}
 use Rattle.v4_client.specs.Calls.{arp_step, brought, carrier_step, heard_step, rebind_step, release_step, unsent_step}
-use Rattle.v4_client.specs.Clients.{ClientContent}
 use Rattle.v4_client.specs.History.{tick_step}
 use Rattle.v4_client.specs.Moves.{moved}
 use Rattle.v4_client.specs.declared.states.Carrier.TheVariants.{Up, Down}

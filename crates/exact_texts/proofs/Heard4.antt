@@ -11,8 +11,7 @@ use Rattle.net_types.specs.AddressText.{FitsIp4, FitsMac}
 use Rattle.net_types.specs.Marks.{AreBytes}
 use Rattle.net_types.specs.declared.address.Ip4.{Ip4}
 use Rattle.net_types.specs.declared.address.Mac.{Mac}
-use Rattle.frame_link.specs.Fields.{mac_in, word_in}
-use Rattle.frame_link.specs.Frames.{Frame, frame_in, said}
+use Rattle.frame_link.specs.Frames.{Frame, frame_in}
 use Rattle.udp_frame.specs.Udp4Frames.{Udp4, udp4_in}
 use Rattle.v4_options.specs.Numbers.{address, address_at, addr_in, number_at, u32_in}
 use Rattle.v4_options.specs.OptionArea.{Instance}

@@ -11,3 +11,4 @@ pub mod WaitingJobs
 pub mod Beginnings
 pub mod ExactLives
 pub mod UnfinishedLives
+pub mod ForetoldLives

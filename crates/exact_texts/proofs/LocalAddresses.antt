@@ -1,5 +1,5 @@
 -- A link-local address that a host holds or loses is one that it may choose by itself.
-use Rattle.std.proofs.Common.{ℕ, ◌<◌, ◌≤◌, ◌^◌, Bool, true, false, List, [], Option, Some, None, IfSome, sym, subst, arith, lit≤, eqb}
+use Rattle.std.proofs.Common.{ℕ, Bool, List, [], Option, Some, None, IfSome, sym, subst, arith, lit≤, eqb}
 use Rattle.machine.specs.Moment.{is_due}
 use Rattle.net_types.proofs.CaseLaws.{gated}
 use Rattle.net_types.specs.AddressText.{FitsNet4}
@@ -17,7 +17,7 @@ use Rattle.arp_acd.specs.declared.detection.Phase.TheVariants.{Probing, Announci
 use Rattle.ipv4ll.proofs.Chosen.{InState, step_in}
 use Rattle.ipv4ll.specs.Choice.{IsChoice}
 use Rattle.ipv4ll.specs.History.{Arm, Heard, Tick, Unsent}
-use Rattle.ipv4ll.specs.Table.{LlStep, due_of, held_in, ll_armed, ll_hears, ll_restarts, ll_tick, moves, news_after, off, said_row, tells, tick_row}
+use Rattle.ipv4ll.specs.Table.{LlStep, due_of, held_in, ll_armed, ll_hears, ll_restarts, ll_tick, moves, news_after, said_row, tells, tick_row}
 use Rattle.ipv4ll.specs.declared.link_local.Fallback.{Fallback}
 use Rattle.ipv4ll.specs.declared.link_local.LinkLocal.{LinkLocal}
 use Rattle.ipv4ll.specs.declared.link_local.LlNews.{LlNews}

@@ -1,18 +1,17 @@
 -- The jobs of a step of the client have exact variables.
-use Rattle.std.proofs.Common.{◌≡◌, ℕ, ◌+◌, ◌*◌, ◌-◌, ◌%◌, ◌^◌, ◌<◌, ◌≤◌, Bool, true, false, List, [], ◌∷◌, ◌++◌, drop, filter, find, flat_map, map, Option, Some, None, IfSome, refl, arith, unwrap_or}
+use Rattle.std.proofs.Common.{◌≡◌, ℕ, ◌+◌, ◌*◌, ◌-◌, ◌^◌, ◌<◌, ◌≤◌, Bool, true, false, List, [], ◌∷◌, ◌++◌, drop, find, flat_map, map, Option, Some, None, IfSome, refl, arith, unwrap_or}
 use Rattle.std.proofs.Math.Nat.{mul-le-mul_right, pow-le-pow_right}
 use Rattle.std.specs.List.{AllByRecursion}
 use Rattle.std.specs.Prelude.{◌==◌, option_to_list}
-use Rattle.net_types.proofs.AllLaws.{all_join, all_map}
+use Rattle.net_types.proofs.AllLaws.{all_join}
 use Rattle.net_types.proofs.CaseLaws.{gated}
 use Rattle.net_types.specs.AddressText.{FitsIp6, FitsNet4, FitsNet6}
 use Rattle.net_types.specs.declared.address.Net4.{Net4}
 use Rattle.net_types.specs.declared.address.Net6.{Net6}
-use Rattle.ipv4ll.specs.Choice.{IsChoice}
 use Rattle.ipv4ll.specs.Table.{held_in}
 use Rattle.prefix_share.proofs.SubnetBits.{Room, room_of, where_room}
 use Rattle.prefix_share.proofs.SubnetNumbers.{counts, sum_fits, two_pos}
-use Rattle.prefix_share.specs.Subnets.{FitsShare, address_count, has_room, network_number, subnet_in, subnet_of}
+use Rattle.prefix_share.specs.Subnets.{FitsShare, has_room, subnet_in, subnet_of}
 use Rattle.prefix_share.specs.declared.share.Share.{Share}
 use Rattle.lease6_text.specs.Bounds.{HasText6, IsTypedIa}
 use Rattle.lease6_text.specs.Leases.{IaLeaseContent, Lease6Content}
@@ -29,12 +28,11 @@ use Rattle.world.specs.declared.reasons.Reason.TheVariants as reason
 use Rattle.hook_env.specs.Jobs.{job_of_situation, made_variables}
 use Rattle.hook_env.specs.Situations.{HeldContent, Nothing, Address4, Delegated}
 use Rattle.settings.specs.Dhcp6Settings.{FitsShareConf}
-use Rattle.settings.specs.Fitting.{FitsManaged}
 use Rattle.settings.specs.declared.dhcp6_conf.ShareConf.{ShareConf}
 use Rattle.settings.specs.declared.interfaces.Managed.{Managed}
 use Rattle.client_model.specs.IfaceSteps.{IfaceStep, Report, index_of}
 use Rattle.client_model.specs.Jobs.{Own, Shared, Told, ia_told, item_told, jobs_along, jobs_among, jobs_of, leased4, leased6, local_held, own, own_if, reason4, reason6, script_path, shared_address, shared_jobs, shares_at, shares_told, situation_of, static_told, told_by, told_in, told_of}
-use Rattle.client_model.specs.WantedRows.{first_address, local_net, metric_of, shares_of}
+use Rattle.client_model.specs.WantedRows.{first_address, local_net, shares_of}
 use Rattle.client_model.specs.declared.interfaces.Iface.{Iface}
 use Rattle.client_model.specs.declared.steps.News.{News}
 use Rattle.client_model.specs.declared.steps.News.TheVariants.{Opened, CarrierCame, CarrierWent, Released, Stopped, Lease4, Lease6, Timeout, LocalGained, LocalLost}

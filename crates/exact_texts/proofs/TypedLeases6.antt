@@ -1,14 +1,13 @@
 -- The lease that a Reply grants has numbers and addresses within the types that hold them, and so have leases that items go from.
-use Rattle.std.proofs.Common.{◌≡◌, ℕ, zero, suc, ◌<◌, ◌≤◌, ◌^◌, Bool, true, false, not, ◌&&◌, List, [], ◌∷◌, ◌++◌, filter, flat_map, fold, length, set, take, drop, Option, Some, None, IfSome, refl, eqb, leb, nat_lt}
+use Rattle.std.proofs.Common.{ℕ, zero, suc, ◌<◌, ◌^◌, Bool, true, false, ◌&&◌, List, [], ◌∷◌, ◌++◌, filter, flat_map, fold, length, set, take, drop, Option, Some, None, IfSome, eqb, leb, nat_lt}
 use Rattle.std.proofs.lemmas.Bool.{and_parts, leb-true}
-use Rattle.std.specs.List.{AllByRecursion, remove}
+use Rattle.std.specs.List.{AllByRecursion}
 use Rattle.std.specs.Option.{option_and_then, option_map, option_map_or}
 use Rattle.net_types.proofs.AllLaws.{all_join}
 use Rattle.net_types.proofs.CaseLaws.{gated, split}
 use Rattle.net_types.specs.AddressText.{FitsIp6, FitsMac}
 use Rattle.net_types.specs.Marks.{AreBytes}
 use Rattle.v6_options.specs.Duids.{duid_in}
-use Rattle.v6_options.specs.Ias.{ias_in}
 use Rattle.v6_options.specs.declared.ia.IaKind.{IaKind}
 use Rattle.v6_options.specs.declared.ia.ItemSaid.{ItemSaid}
 use Rattle.v6_message.specs.Replies.{Content6}
@@ -19,7 +18,7 @@ use Rattle.lease6_text.specs.declared.lease.Item6.{Item6}
 use Rattle.lease6_text.specs.declared.lease.TheConstants.{ITEM_LIMIT}
 use Rattle.v6_client.specs.Answers.{fresh_of, granted, meeting_of, server_of}
 use Rattle.v6_client.specs.Clients.{ClientContent}
-use Rattle.v6_client.specs.Items.{asked_at, ia_with, ias_of, is_nonempty, items_at, pruned_ia, pruned_ias, staying, stays_in, thinned, without}
+use Rattle.v6_client.specs.Items.{asked_at, ia_with, ias_of, is_nonempty, pruned_ia, pruned_ias, staying, stays_in, thinned, without}
 use Rattle.v6_client.specs.Moves.{kept_left, lease_with, thinned_lease}
 use Rattle.v6_client.specs.Reading.{ia_for, is_unbound, saids_of}
 use Rattle.v6_client.specs.Taking.{IaTaking, Meeting, carried, ia_granted, ias_granted, is_carried, item_from, place_of, placed, taken_by, taken_out, takes_item}

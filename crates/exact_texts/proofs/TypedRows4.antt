@@ -1,6 +1,6 @@
 -- The lease that a step of a DHCPv4 client takes has numbers and addresses within the types that hold them, where what is checked and
 -- what is granted have such.
-use Rattle.std.proofs.Common.{ℕ, ◌+◌, ◌*◌, ◌≤◌, Bool, true, ◌||◌, List, Option, Some, None, IfSome, nat_le, eqb}
+use Rattle.std.proofs.Common.{ℕ, ◌≤◌, Bool, true, ◌||◌, List, Option, Some, None, IfSome, nat_le, eqb}
 use Rattle.machine.specs.Moment.{is_due}
 use Rattle.net_types.proofs.CaseLaws.{gated}
 use Rattle.net_types.specs.AddressText.{FitsIp4, FitsMac}
@@ -12,10 +12,8 @@ use Rattle.arp_acd.specs.declared.detection.AcdSays.TheVariants.{Quiet, SayProbe
 use Rattle.arp_acd.specs.Table as detection
 use Rattle.lease_text.specs.declared.lease.Terms4.{Terms4}
 use Rattle.lease_text.specs.declared.lease.TheConstants.{INFINITE_LEASE}
-use Rattle.v4_client.specs.declared.moments.Backoff.{Backoff}
 use Rattle.v4_client.specs.declared.states.Answer4.{Answer4}
 use Rattle.v4_client.specs.declared.states.Answer4.TheVariants as answer
-use Rattle.v4_client.specs.declared.states.Exchange4.{Exchange4}
 use Rattle.v4_client.specs.declared.states.Keep4.{Keep4}
 use Rattle.v4_client.specs.declared.states.Keep4.TheVariants.{Stays, Clears, Takes}
 use Rattle.v4_client.specs.declared.states.News4.{News4}
@@ -30,7 +28,7 @@ use Rattle.v4_client.specs.declared.states.Tell.TheVariants.{Server, Nobody}
 use Rattle.v4_client.specs.declared.states.Turn4.{Turn4}
 use Rattle.v4_client.specs.Detection.{checked, defended, with_acd}
 use Rattle.v4_client.specs.Hearing.{answered, arp_row, contested, granted, heard_row, offered, renewed}
-use Rattle.v4_client.specs.Inputs.{begin_row, begins, entered, off_row, rebind_row, release_row, released, released_standing, unsent_row}
+use Rattle.v4_client.specs.Inputs.{begin_row, begins, off_row, rebind_row, release_row, released, released_standing, unsent_row}
 use Rattle.v4_client.specs.Moments.{expiry, rebinding_at, renewal_at, standing_until}
 use Rattle.v4_client.specs.Steps.{binds, bound_news, rests}
 use Rattle.v4_client.specs.Ticks.{detects, is_longest, tick_row}

@@ -8,7 +8,6 @@ use Rattle.net_types.specs.declared.interface.IfSpec.{IfSpec}
 use Rattle.world.specs.LinkCalls.{Given, Offered, Waited}
 use Rattle.world.specs.StoreCalls.{Unread}
 use Rattle.world.specs.declared.wakes.Begin.{Begin}
-use Rattle.settings.specs.Fitting.{AreManaged}
 use Rattle.settings.specs.declared.interfaces.Managed.{Managed}
 use Rattle.device_calls.specs.Calls.{Abandon, AnswerTo, Ask, Call, Change, Drop, Dropped, Hook, Host, Link, ListAsides, ListRows, Offer, Poll, Read, RemoveFile, RenameAside, Settle, Start, Store, SyncAside, WriteAside}
 use Rattle.device_calls.specs.Fronts.{Fronts}

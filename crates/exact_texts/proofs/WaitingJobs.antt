@@ -9,7 +9,7 @@ use Rattle.hook_child.specs.Supervision as child
 use Rattle.hook_child.specs.Supervision.{Order, Supervision, after_next, after_poll, after_put, first_order, is_full, next_order, numbered, poll_order, waiting_after}
 use Rattle.device_calls.specs.Calls as asks
 use Rattle.device_calls.specs.Calls.{Call}
-use Rattle.device_calls.specs.Programs.{Asks, Done, Then, after}
+use Rattle.device_calls.specs.Programs.{Asks, Done, Then}
 use Rattle.turn_model.proofs.Asking.{HostAsks, LinkAsks, StoreAsks}
 use Rattle.turn_model.specs.Hooking.{heard, hooking, letting_go, polling, polling_child, putting, putting_one, started, starting}
 use Rattle.safe_texts.proofs.ProgramEnds as programs

@@ -1,14 +1,20 @@
 -- That what hooks are given is what its names say: in each life, whatever came in.
-use Rattle.std.specs.Prelude.{◌≡◌, ℕ, List, ◌++◌, flat_map, Some}
+use Rattle.std.specs.Prelude.{◌≡◌, ℕ, List, ◌++◌, flat_map, Some, Ok}
 use Rattle.std.specs.List.{AllByRecursion, Contains}
+use Rattle.net_types.specs.Marks.{AreBytes}
 use Rattle.net_types.specs.NameText.{name_text}
 use Rattle.net_types.specs.declared.interface.IfSpec.{IfSpec}
 use Rattle.world.specs.HookCalls.{Job, Variable}
 use Rattle.settings.specs.Fitting.{AreManaged}
 use Rattle.settings.specs.declared.interfaces.Managed.{Managed}
+use Rattle.conf_text.specs.Configurations.{Configuration, IsConfOf}
+use Rattle.conf_text.specs.Fits.{FitsSpec}
+use Rattle.conf_text.specs.Settings.{managed_of}
 use Rattle.client_model.specs.Jobs.{script_path}
 use Rattle.device_calls.specs.CallLines.{interface_of}
 use Rattle.device_calls.specs.Calls.{Call}
+use Rattle.device_calls.specs.Worlds.{World}
+use Rattle.turn_model.specs.Foretold.{foretold_life}
 use Rattle.turn_model.specs.LifeFronts.{FrontOfLife}
 use Rattle.turn_model.specs.Lives.{AreTurns, IsOpening, Met, OpeningMet, turns_calls}
 use Rattle.safe_texts.specs.ConfiguredTexts.{IsConfiguredLife}
@@ -52,3 +58,18 @@ abbrev pub UnfinishedJobsAreExact : Type 0
 UnfinishedJobsAreExact = (managed : List Managed) (specs : List IfSpec) (calls : List Call) → AreManaged managed
     → FrontOfLife managed specs calls → AllByRecursion GivesBytes calls
     → AreExactJobs managed (flat_map job_in calls)
+
+-- ---- over devices that tell what they hold
+
+-- the calls of the life that they foretell
+abbrev pub foretold_calls : List Managed → List IfSpec → World → List Call
+foretold_calls managed specs world =
+    let lived = foretold_life managed specs world in
+    lived.opening.calls ++ turns_calls lived.opening.life lived.mets
+
+-- So it is in that life, where what the link will bring is bytes.
+abbrev pub ForetoldJobsAreExact : Type 0
+ForetoldJobsAreExact =
+    (text : List ℕ) (conf : Configuration) (specs : List IfSpec) (world : World) → IsConfOf text (Ok conf)
+    → AllByRecursion FitsSpec specs → AllByRecursion (λ given. AreBytes given.bytes) world.link.told.coming
+    → AreExactJobs (managed_of conf specs) (flat_map job_in (foretold_calls (managed_of conf specs) specs world))
