@@ -159,7 +159,8 @@ module _ (managed : List Managed) where
   silent_exact : (f : Iface) → Q f → IsExactStep (silent f)
   silent_exact f q = record { iface = q; reports = tt }
 
-  then_exact : (first : IfaceStep) (next : Iface → IfaceStep) → IsExactStep first → ((f : Iface) → Q f → IsExactStep (next f)) → IsExactStep (then_step first next)
+  then_exact : (first : IfaceStep) (next : Iface → IfaceStep) → IsExactStep first → ((f : Iface) → Q f → IsExactStep (next f))
+      → IsExactStep (then_step first next)
   then_exact first next one more =
       let two : IsExactStep (next first.iface) = more first.iface one.iface in
       record { iface = two.iface; reports = all_join IsExactReport first.reports (next first.iface).reports one.reports two.reports }

@@ -62,7 +62,8 @@ first_fits prefix share fits bounds room =
     let sum = sum_fits prefix.ip.number (share.sla * 2 ^ (128 - share.len) + 1) prefix.len fits short within in
     record { address = omega (arith, sum); prefix = omega (arith, most) }
 
-subnet_fits : (prefix : Net6) (share : Share) → FitsIp6 prefix.ip → FitsShare share → IfSome (subnet_in prefix share) (λ (net : Net6). FitsNet6 (first_address net))
+subnet_fits : (prefix : Net6) (share : Share) → FitsIp6 prefix.ip → FitsShare share
+    → IfSome (subnet_in prefix share) (λ (net : Net6). FitsNet6 (first_address net))
 subnet_fits prefix share fits bounds =
     where_room (has_room prefix.len share) (subnet_of prefix share) (λ (net : Net6). FitsNet6 (first_address net))
     (λ room. first_fits prefix share fits bounds (room_of prefix.len share room))

@@ -124,7 +124,8 @@ out_typed : (place : Option ℕ) (items : List Item6) → TypedItems items → T
 out_typed None items typed = typed
 out_typed (Some place) items typed = out_all TypedItem items place typed
 
-placed_typed : (at : ℕ) (said : ItemSaid) (place : Option ℕ) (taking : IaTaking) → IsAddressed said → TakesTyped taking → TakesTyped (placed at said place taking)
+placed_typed : (at : ℕ) (said : ItemSaid) (place : Option ℕ) (taking : IaTaking) → IsAddressed said → TakesTyped taking
+    → TakesTyped (placed at said place taking)
 placed_typed at said (Some place) taking good typed = set_all TypedItem taking.items place (item_from at said) good typed
 placed_typed at said None taking good typed =
     gated TakesTyped (nat_lt (length taking.items) ITEM_LIMIT) _ taking (all_join TypedItem taking.items (item_from at said ∷ []) typed (good, tt)) typed

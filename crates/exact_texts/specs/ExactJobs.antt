@@ -23,8 +23,8 @@ use Rattle.safe_texts.specs.ResolverLines.{AreOctets}
 use Rattle.safe_texts.specs.SafeCalls.{GivesBytes}
 use Rattle.safe_texts.specs.SafeJobs.{job_in}
 
--- It is of a managed interface, which it names, and runs the script that is configured there. Each variable that is made
--- of its event is what its form says, and behind these stand those that are configured for its hooks, as they were
+-- It is of a managed interface, which it names, and runs the script that is configured there. Each variable that is
+-- made of its event is what its form says, and behind these stand those that are configured for its hooks, as they were
 -- configured.
 pub record IsExactJob (managed : List Managed) (job : Job) : Type 0 where
   pub holder : Managed
