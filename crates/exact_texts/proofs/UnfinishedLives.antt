@@ -1,5 +1,5 @@
 -- What a life asked up to a moment is what one of whole turns asks first: what holds of each call of these holds of its calls.
-use Rattle.std.proofs.Common.{ℕ, ◌≡◌, Bool, true, false, inl, inr, List, [], ◌∷◌, ◌++◌, Option, Some, None, refl, sym, ap, ap₂, subst, ◌∙◌, append_assoc, append-nil}
+use Rattle.std.proofs.Common.{ℕ, ◌≡◌, Bool, true, false, inl, inr, List, [], ◌∷◌, ◌++◌, Option, Some, None, refl, sym, ap, ap₂, subst, ◌∙◌, append_assoc, append-nil, flat_map}
 use Rattle.std.specs.Prelude.{◌⊎◌}
 use Rattle.std.specs.List.{AllByRecursion}
 use Rattle.net_types.proofs.AllLaws.{all_join}
@@ -8,6 +8,7 @@ use Rattle.net_types.specs.declared.interface.IfSpec.{IfSpec}
 use Rattle.world.specs.LinkCalls.{Given, Offered, Waited}
 use Rattle.world.specs.StoreCalls.{Unread}
 use Rattle.world.specs.declared.wakes.Begin.{Begin}
+use Rattle.settings.specs.Fitting.{AreManaged}
 use Rattle.settings.specs.declared.interfaces.Managed.{Managed}
 use Rattle.device_calls.specs.Calls.{Abandon, AnswerTo, Ask, Call, Change, Drop, Dropped, Hook, Host, Link, ListAsides, ListRows, Offer, Poll, Read, RemoveFile, RenameAside, Settle, Start, Store, SyncAside, WriteAside}
 use Rattle.device_calls.specs.Fronts.{Fronts}
@@ -16,11 +17,13 @@ use Rattle.turn_model.specs.LifeFronts.{BeginsTurn, FailsWait, FrontOfLife, Fron
 use Rattle.turn_model.specs.Lives.{AreTurns, IsOpening, Met, OpeningMet, life_after, met_with, turn_calls, turns_calls}
 use Rattle.turn_model.specs.Opening.{opening_asks}
 use Rattle.turn_model.specs.Turns.{Life, is_end, is_over, turn_asks, until}
+use Rattle.safe_texts.proofs.CutLives.{lives_tell_safely}
 use Rattle.safe_texts.specs.ResolverLines.{AreOctets}
 use Rattle.safe_texts.specs.SafeCalls.{GivesBytes}
 use Rattle.safe_texts.specs.SafeJobs.{job_in}
 use Rattle.exact_texts.proofs.ExactLives.{calls_have_exact_jobs, life_calls_are_exact}
-use Rattle.exact_texts.specs.ExactJobs.{AreExactJobs, UnfinishedJobsAreExact}
+use Rattle.exact_texts.specs.ExactCalls.{LivesTellExactly}
+use Rattle.exact_texts.specs.ExactJobs.{AreExactJobs}
 
 -- ---- a front of questions, and what may be asked after it
 
@@ -252,9 +255,14 @@ module _ (managed : List Managed) (specs : List IfSpec) (calls : List Call) (is 
 
 -- ---- each life
 
-pub unfinished_jobs_are_exact : UnfinishedJobsAreExact
-unfinished_jobs_are_exact managed specs calls fit front bytes =
+jobs_exact : (managed : List Managed) (specs : List IfSpec) (calls : List Call) → AreManaged managed → FrontOfLife managed specs calls
+    → AllByRecursion GivesBytes calls → AreExactJobs managed (flat_map job_in calls)
+jobs_exact managed specs calls fit front bytes =
     let is : IsFrontOf managed specs calls = life_front managed specs calls front in
     calls_have_exact_jobs managed calls
     (calls_all managed specs calls is (λ (call : Call). AreExactJobs managed (job_in call)) (λ asked given. tt)
     (life_calls_are_exact managed specs is.opening is.mets fit is.opens is.turns (is.octets bytes)))
+
+pub lives_tell_exactly : LivesTellExactly
+lives_tell_exactly managed specs calls fit front =
+    record { safe = lives_tell_safely managed specs calls fit front; exact = jobs_exact managed specs calls fit front }

@@ -1,4 +1,4 @@
--- That what hooks are given is what its names say: in each life, whatever came in.
+-- That what hooks are given is what its names say: in each whole life, whatever came in.
 use Rattle.std.specs.Prelude.{◌≡◌, ℕ, List, ◌++◌, flat_map, Some, Ok}
 use Rattle.std.specs.List.{AllByRecursion, Contains}
 use Rattle.net_types.specs.Marks.{AreBytes}
@@ -15,12 +15,10 @@ use Rattle.device_calls.specs.CallLines.{interface_of}
 use Rattle.device_calls.specs.Calls.{Call}
 use Rattle.device_calls.specs.Worlds.{World}
 use Rattle.turn_model.specs.Foretold.{foretold_life}
-use Rattle.turn_model.specs.LifeFronts.{FrontOfLife}
 use Rattle.turn_model.specs.Lives.{AreTurns, IsOpening, Met, OpeningMet, turns_calls}
 use Rattle.safe_texts.specs.ConfiguredTexts.{IsConfiguredLife}
 use Rattle.safe_texts.specs.ExactVariables.{AreExact}
 use Rattle.safe_texts.specs.ResolverLines.{AreOctets}
-use Rattle.safe_texts.specs.SafeCalls.{GivesBytes}
 use Rattle.safe_texts.specs.SafeJobs.{job_in}
 
 -- It is of a managed interface, which it names, and runs the script that is configured there. Each variable that is
@@ -52,12 +50,6 @@ ConfiguredJobsAreExact =
     (text : List ℕ) (managed : List Managed) (specs : List IfSpec) (opening : OpeningMet) (mets : List Met)
     → IsConfiguredLife text managed specs opening mets → AreOctets mets
     → AreExactJobs managed (flat_map job_in (opening.calls ++ turns_calls opening.life mets))
-
--- And in a life up to any moment.
-abbrev pub UnfinishedJobsAreExact : Type 0
-UnfinishedJobsAreExact = (managed : List Managed) (specs : List IfSpec) (calls : List Call) → AreManaged managed
-    → FrontOfLife managed specs calls → AllByRecursion GivesBytes calls
-    → AreExactJobs managed (flat_map job_in calls)
 
 -- ---- over devices that tell what they hold
 

@@ -1,1 +1,2 @@
 pub mod ExactJobs
+pub mod ExactCalls
