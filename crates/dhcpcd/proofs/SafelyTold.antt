@@ -1,4 +1,4 @@
--- In each life hooks and the resolver are told texts that are safe to read.
+-- In each life hooks and the resolver are told texts that are safe to read, and variables that are what their names say.
 use Rattle.std.proofs.Common.{ℕ, ◌≡◌, Bool, true, false, cond, List, [], ◌∷◌, length, refl, sym, subst, Ok}
 use Rattle.std.specs.Prelude.{◌||◌}
 use Rattle.std.specs.List.{AllByRecursion}
@@ -23,6 +23,7 @@ use Rattle.safe_texts.specs.ResolverLines.{AreOctets, IsLife}
 use Rattle.safe_texts.proofs.ConfiguredLives.{configured_lives_are_lives, variables_are_printable}
 use Rattle.safe_texts.proofs.LifeJobs.{life_jobs_are_safe}
 use Rattle.safe_texts.proofs.LifeLines.{written_lines_are_safe}
+use Rattle.exact_texts.proofs.ExactLives.{configured_jobs_are_exact}
 use Rattle.dhcpcd.specs.Replays.{IsScript, configuration_text, managed_in, failing_in, at_first, Failing, Between, world_in, after_life}
 use Rattle.dhcpcd.specs.Sound.{BringsBytes}
 use Rattle.dhcpcd.specs.ToldSafely.{TellsSafely, AllTellSafely}
@@ -75,6 +76,9 @@ module _ (text : List ℕ) (conf : Configuration) (is : IsConfOf text (Ok conf))
       jobs =
           life_jobs_are_safe managed specs (foretold_life managed specs world).opening
           (foretold_life managed specs world).mets lived.fit lived.opens lived.turns;
+      exact =
+          configured_jobs_are_exact text managed specs (foretold_life managed specs world).opening (foretold_life managed specs world).mets configured
+          heard;
       variables = variables_are_printable text managed specs (foretold_life managed specs world).opening (foretold_life managed specs world).mets configured;
       resolver = written_lines_are_safe managed specs (foretold_life managed specs world).opening (foretold_life managed specs world).mets lived;
     }

@@ -1,4 +1,5 @@
--- What hooks and the resolver are told in a life: texts that are safe to read, whatever servers, files and frames said.
+-- What hooks and the resolver are told in a life: texts that are safe to read, and variables that are what their names
+-- say, whatever servers, files and frames said.
 use Rattle.std.specs.Prelude.{List, [], ◌∷◌, ◌++◌, flat_map}
 use Rattle.std.specs.List.{AllByRecursion}
 use Rattle.net_types.specs.declared.interface.IfSpec.{IfSpec}
@@ -11,6 +12,7 @@ use Rattle.turn_model.specs.Lives.{turns_calls}
 use Rattle.safe_texts.specs.SafeJobs.{AreSafeJobs, job_in}
 use Rattle.safe_texts.specs.ConfiguredTexts.{HasPlainVariables}
 use Rattle.safe_texts.specs.ResolverLines.{IsLinesCall}
+use Rattle.exact_texts.specs.ExactJobs.{AreExactJobs}
 use Rattle.dhcpcd.specs.Replays.{Failing, Between, world_in, after_life}
 
 -- the calls of the life that these devices foretell
@@ -20,10 +22,11 @@ life_calls managed specs world =
     lived.opening.calls ++ turns_calls lived.opening.life lived.mets
 
 -- Each job that it starts or drops is of a managed interface and runs the script that is configured there; what is made
--- of its event is of the form that its name tells, and each of its variables is printable. Each text that is written to
--- take the place of the resolver's file is lines of names and addresses.
+-- of its event is of the form that its name tells, and is what this says, and each of its variables is printable. Each
+-- text that is written to take the place of the resolver's file is lines of names and addresses.
 pub record TellsSafely (managed : List Managed) (specs : List IfSpec) (world : World) : Type 0 where
   pub jobs : AreSafeJobs managed (flat_map job_in (life_calls managed specs world))
+  pub exact : AreExactJobs managed (flat_map job_in (life_calls managed specs world))
   pub variables : AllByRecursion HasPlainVariables (flat_map job_in (life_calls managed specs world))
   pub resolver : AllByRecursion IsLinesCall (life_calls managed specs world)
 
