@@ -23,5 +23,5 @@ pub mod Fronts
 mod FileNames
 pub mod Wakings
 pub mod Filings
-pub mod SafeLives
+pub mod ToldLives
 pub mod Whole

@@ -27,7 +27,7 @@ use Rattle.daemon.specs.Cuts.{cut_lines, turns_left, BreaksOff, CutOpening, CutL
 use Rattle.daemon.proofs.Waitings.{began, begun_world}
 use Rattle.daemon.proofs.Stretches.{lines_then, text_written}
 use Rattle.daemon.proofs.CutOffs.{front_some, front_after, told_left, left_whole}
-use Rattle.daemon.proofs.SafeLives.{begun_safe, opening_safe, ended_safe, cut_safe}
+use Rattle.daemon.proofs.ToldLives.{begun_told, opening_told, ended_told, cut_told}
 
 -- ---- what was foretold
 
@@ -126,8 +126,8 @@ module _ (managed : List Managed) (specs : List IfSpec) (begin : Begin) (life : 
     left =
         leaves_foretold managed specs begin made.calls life (world_of old) (world_of mid) (world_of opened) (world_of new)
         (begun_world begin old mid begins) made.did.foretold ends.left;
-    safe =
-        ended_safe managed specs fit (opening_with begin made.calls life) made.did.makes ends.mets ends.last ends.turns
+    told =
+        ended_told managed specs fit (opening_with begin made.calls life) made.did.makes ends.mets ends.last ends.turns
         (last_there allowed last new out_two ends);
     child = known ∙ ap (λ (l : Life). is_some l.hooks.child) ends.after;
   }
@@ -145,7 +145,7 @@ module _ (managed : List Managed) (specs : List IfSpec) (begin : Begin) (life : 
     foretold =
         opens_foretold managed specs begin made.calls life (told_left managed life (world_of opened)) (world_of old) (world_of mid) (world_of opened)
         (begun_world begin old mid begins) made.did.foretold (left_whole managed life (world_of opened));
-    safe = opening_safe managed specs fit (opening_with begin made.calls life) made.did.makes;
+    told = opening_told managed specs fit (opening_with begin made.calls life) made.did.makes;
   }
 
   pub leaves_opening : (end : ServeEnd) (allowed : ℕ) (out_to : Option (List ℕ)) (a b : ℕ) → WritesSome out out_to written → HasServeCause end a b 0 0
@@ -178,8 +178,8 @@ module _ (managed : List Managed) (specs : List IfSpec) (begin : Begin) (life : 
         (begun_world begin old mid begins) made.did.foretold breaks.whole;
     within = breaks.within;
     all = breaks.all;
-    safe =
-        cut_safe managed specs fit (opening_with begin made.calls life) made.did.makes breaks.mets end breaks.at breaks.calls breaks.turns breaks.cuts;
+    told =
+        cut_told managed specs fit (opening_with begin made.calls life) made.did.makes breaks.mets end breaks.at breaks.calls breaks.turns breaks.cuts;
   }
 
   pub leaves_life : (end : ServeEnd) (allowed : ℕ) (new : Seen) (out_to : Option (List ℕ)) → WritesBytes out out_one written
@@ -209,6 +209,6 @@ leaves_opened allowed managed specs fit begin old mid new out begins opens =
       record {
         begun = record { begin = begin; seen = mid; begins = begins };
         opens = opens;
-        safe = begun_safe managed specs fit begin opens.calls opens.front;
+        told = begun_told managed specs fit begin opens.calls opens.front;
       },
     )

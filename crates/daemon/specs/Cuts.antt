@@ -13,7 +13,7 @@ use Rattle.turn_model.specs.Turns.{Life, until, is_over}
 use Rattle.turn_model.specs.Opening.{opening_asks}
 use Rattle.turn_model.specs.Lives.{OpeningMet, IsOpening, Met, AreTurns, IsLast, life_after, turn_calls, turns_calls, opening_lines, turn_lines, closing_lines}
 use Rattle.turn_model.specs.LifeFronts.{FrontOfTurn}
-use Rattle.safe_texts.specs.SafeCalls.{TellSafely}
+use Rattle.exact_texts.specs.ExactCalls.{TellExactly}
 use Rattle.daemon.specs.declared.serving.ServeEnd.{ServeEnd}
 use Rattle.daemon.specs.declared.serving.ServeEnd.TheVariants as ends
 use Rattle.daemon.specs.Streams.{WritesFront}
@@ -91,7 +91,8 @@ pub record BreaksOff (end : ServeEnd) (allowed : ℕ) (managed : List Managed) (
   pub within : length mets + wakes_asked at calls ≤ allowed
   pub all : HandledAll end (length mets) allowed
 
--- a life was cut off in the lines of its opening; what it told hooks and the resolver is safe to read
+-- a life was cut off in the lines of its opening; what it told hooks and the resolver is safe to read, and variables are
+-- what their names say
 pub record CutOpening (end : ServeEnd) (managed : List Managed) (specs : List IfSpec) (old new : Seen)
     (out_from out_to : Option (List ℕ)) : Type 0 where
   pub begun : Begun old
@@ -102,7 +103,7 @@ pub record CutOpening (end : ServeEnd) (managed : List Managed) (specs : List If
   pub written : WritesFront out_from out_to [] (opening_lines opening)
   pub tells : Tells begun.seen new opening.calls
   pub foretold : IsForetold managed specs old opening rest
-  pub safe : TellSafely managed opening.calls
+  pub told : TellExactly managed opening.calls
 
 -- a life was cut off after its opening and some turns, whose lines stand written whole; so is what it told
 pub record CutLife (end : ServeEnd) (allowed : ℕ) (managed : List Managed) (specs : List IfSpec) (old new : Seen)
@@ -122,7 +123,7 @@ pub record CutLife (end : ServeEnd) (allowed : ℕ) (managed : List Managed) (sp
   pub foretold : IsForetold managed specs old opening (mets ++ turns_left at)
   pub within : length mets + wakes_asked at calls ≤ allowed
   pub all : HandledAll end (length mets) allowed
-  pub safe : TellSafely managed (opening.calls ++ (turns_calls opening.life mets ++ calls))
+  pub told : TellExactly managed (opening.calls ++ (turns_calls opening.life mets ++ calls))
 
 -- a wait that failed, or wanted memory and changed nothing that is told
 abbrev pub WaitFails : ServeEnd → (until : Option ℕ) → Seen → Seen → Type 0
@@ -142,7 +143,7 @@ BeginFails other old new = ⊥
 pub record BeginsOpening (managed : List Managed) (specs : List IfSpec) (old new : Seen) : Type 0 where
   pub begun : Begun old
   pub opens : HasBegun (opening_asks managed specs begun.begin) begun.seen new
-  pub safe : TellSafely managed opens.calls
+  pub told : TellExactly managed opens.calls
 
 -- What stands written, and what was asked, where so many turns were allowed. Where beginning failed, or memory was
 -- wanted before the opening's lines were written, nothing was written.

@@ -9,7 +9,7 @@ use Rattle.device_calls.specs.Worlds.{Seen, world_of}
 use Rattle.device_calls.specs.Telling.{Tells}
 use Rattle.turn_model.specs.Lives.{OpeningMet, IsOpening, Met, AreTurns, IsLast, life_after, turns_calls, life_lines}
 use Rattle.turn_model.specs.Foretold.{ForetoldLife, foretold_life, left_in}
-use Rattle.safe_texts.specs.SafeCalls.{TellSafely}
+use Rattle.exact_texts.specs.ExactCalls.{TellExactly}
 use Rattle.daemon.specs.Waits.{BeginsThere}
 use Rattle.daemon.specs.Streams.{WritesLines}
 
@@ -36,7 +36,8 @@ LeavesForetold managed specs old new =
 
 -- A life was lived to its end: it was begun once, its opening and turns asked what they are to ask, the devices that
 -- tell their calls tell these and no other, and its lines were written. A hook's child runs then where the last turn
--- left one. It took no more wakes than were allowed. What these calls told hooks and the resolver is safe to read.
+-- left one. It took no more wakes than were allowed. What these calls told hooks and the resolver is safe to read, and
+-- variables are what their names say.
 pub record Served (allowed : ℕ) (managed : List Managed) (specs : List IfSpec) (old new : Seen)
     (out_from out_to : Option (List ℕ)) : Type 0 where
   pub begun : Begun old
@@ -52,5 +53,5 @@ pub record Served (allowed : ℕ) (managed : List Managed) (specs : List IfSpec)
   pub written : WritesLines out_from out_to (life_lines opening mets)
   pub foretold : IsForetold managed specs old opening mets
   pub left : LeavesForetold managed specs old new
-  pub safe : TellSafely managed (opening.calls ++ (turns_calls opening.life mets ++ last))
+  pub told : TellExactly managed (opening.calls ++ (turns_calls opening.life mets ++ last))
   pub child : new.waiting.child ≡ is_some (life_after opening.life mets).hooks.child
