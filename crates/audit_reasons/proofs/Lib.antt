@@ -1,0 +1,8 @@
+pub mod Givings
+pub mod Reasoned
+pub mod LinesMade
+pub mod LivesSaid
+pub mod Accounted
+mod RowLaws
+mod TurnLaws
+mod CourseLaws

@@ -1,0 +1,8 @@
+pub mod Texts
+pub mod Reasons
+pub mod Finding
+pub mod Judging
+pub mod Explaining
+pub mod Holding
+pub mod Accounts
+pub mod Saying
