@@ -37,6 +37,12 @@ STATES = {
     ("restart-old", 2, "eth0", "dhcp4"): "rebooting",
     ("v6-lease", 1, "eth0", "dhcp6"): "begins soliciting requesting bound renewing bound off",
 }  # fmt: skip
+# By example, life, interface and address what its bar says of the basis that is found.
+BASES = {
+    ("lease", 1, "eth0", "10.0.0.50/24"): "lease4 request turn 9 (line 46) ack turn 10 (line 49) probes turn 4 (line 20)",
+    ("persistent-v6", 2, "wan0", "2001:db8::5/128"): "lease6 1 reply turn 1 (line 66)",
+    ("persistent-v6", 2, "lan1", "2001:db8:0:ab01::1/64"): "share 1",
+}
 FETCHES = re.compile(r"(?:src|href)=|url\((?!#)|https?://|@import|\bfetch\(|XMLHttpRequest")
 # Where the first band of a life is, and its line.
 PLACE = """(() => {
@@ -56,10 +62,19 @@ def read(name):
         return file.read()
 
 
+def lanes(name, life, interface, bases):
+    panels, _ = model.panels(transcript.read(read(name + ".transcript")), bases)
+    return next(group for group in panels[life - 1].groups if group.title == interface).lanes
+
+
+def basis(name, life, interface, net):
+    bases = model.bases_of(read(name + ".why").decode())
+    bars = [bar for lane in lanes(name, life, interface, bases) for bar in lane.bars if bar.label == net]
+    return bars[-1].note.partition("found: ")[2]
+
+
 def states(name, life, interface, lane):
-    panels, _ = model.panels(transcript.read(read(name + ".transcript")), {})
-    group = next(group for group in panels[life - 1].groups if group.title == interface)
-    bands = next(one for one in group.lanes if one.name == lane).bands
+    bands = next(one for one in lanes(name, life, interface, {}) if one.name == lane).bands
     return " ".join(band.state.replace(" ", "-") for band in bands)
 
 
@@ -124,6 +139,9 @@ def main():
     for place, wanted in STATES.items():
         found = states(*place)
         expect(f"{place}: {found}", found == wanted)
+    for place, wanted in BASES.items():
+        found = basis(*place)
+        expect(f"{place}: {found}", found.startswith(wanted))
     # a browser may still write into its profile when it is told to go
     with tempfile.TemporaryDirectory(ignore_cleanup_errors=True) as room:
         for name in ["lease", "hooks", "host-failures"]:

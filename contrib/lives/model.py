@@ -14,6 +14,8 @@ from .transcript import Call, Interface, Life, Run, Turn
 
 # Of which group a mark is, by the name of its message.
 ARP, DHCP4, DHCP6, OTHER, CALL = "arp", "dhcp4", "dhcp6", "other", "call"
+# In a basis the number behind these is that of an association or of an interface; all others are turns.
+NO_TURN_BEHIND = ("lease6", "share")
 
 
 class Mark(NamedTuple):
@@ -327,7 +329,13 @@ class LifeView:
         for net, bar in view.held.items():
             basis = self.bases.get((self.life.number, f"addr {view.interface.index} {net}"))
             if basis:
-                bar.note += "\nfound: " + " ".join(self.with_line(word) for word in basis.split(" "))
+                bar.note += f"\nfound: {self.reason(basis)}"
+
+    def reason(self, basis: str) -> str:
+        """A basis, with the line of each turn that it names."""
+        words = basis.split(" ")
+        pairs = zip(["", *words], words)
+        return " ".join(word if before in NO_TURN_BEHIND else self.with_line(word) for before, word in pairs)
 
     def with_line(self, word: str) -> str:
         """The number of a turn with its line; another word alone."""

@@ -5,7 +5,7 @@ use Rattle.net_types.specs.declared.address.Mac.{Mac}
 use Rattle.net_types.specs.declared.interface.IfSpec.{IfSpec}
 use Rattle.net_types.specs.declared.interface.Name.{Name}
 use Rattle.live_words.specs.LiveWords.{AsksLive}
-use Rattle.dhcpcd.specs.Words.{AskAudit, AskReplay, AskCheck, AskDump, AskImport, AskLab, AskLive, AskMake, AsksImport, AsksMake, AskWork}
+use Rattle.dhcpcd.specs.Words.{AskAudit, AskReplay, AskCheck, AskDump, AskImport, AskLab, AskLive, AskMake, AskWhy, AsksImport, AsksMake, AskWork}
 
 first_word : List (List ℕ) → List ℕ
 first_word [] = []
@@ -131,6 +131,38 @@ pub not_lab_audit : (words : List (List ℕ)) → AskLab words → AskAudit word
 unfolding first_word
 not_lab_audit words lab audit = apart words (codes "lab") (codes "audit") refl refl (ap first_word lab) (ap first_word audit)
 
+pub not_replay_why : (words : List (List ℕ)) → AskReplay words → AskWhy words → ⊥
+unfolding first_word
+not_replay_why words replay why = apart words (codes "replay") (codes "audit") refl refl (ap first_word replay) (ap first_word why)
+
+pub not_check_why : (words : List (List ℕ)) → AskCheck words → AskWhy words → ⊥
+unfolding first_word
+not_check_why words check why = apart words (codes "check") (codes "audit") refl refl (ap first_word check) (ap first_word why)
+
+pub not_live_why : (words : List (List ℕ)) → AskLive words → AskWhy words → ⊥
+unfolding first_word
+not_live_why words live why = apart words (codes "live") (codes "audit") refl refl (ap first_word live.1.says) (ap first_word why)
+
+pub not_make_why : (words : List (List ℕ)) → AskMake words → AskWhy words → ⊥
+unfolding first_word
+not_make_why words make why = apart words (codes "make") (codes "audit") refl refl (ap first_word make.1.says) (ap first_word why)
+
+pub not_dump_why : (words : List (List ℕ)) → AskDump words → AskWhy words → ⊥
+unfolding first_word
+not_dump_why words dump why = apart words (codes "dump") (codes "audit") refl refl (ap first_word dump) (ap first_word why)
+
+pub not_import_why : (words : List (List ℕ)) → AskImport words → AskWhy words → ⊥
+unfolding first_word
+not_import_why words import why = apart words (codes "import") (codes "audit") refl refl (ap first_word import.2.says) (ap first_word why)
+
+pub not_lab_why : (words : List (List ℕ)) → AskLab words → AskWhy words → ⊥
+unfolding first_word
+not_lab_why words lab why = apart words (codes "lab") (codes "audit") refl refl (ap first_word lab) (ap first_word why)
+
+-- one has a word more
+pub not_audit_why : (words : List (List ℕ)) → AskAudit words → AskWhy words → ⊥
+not_audit_why words audit why = let e = sym audit ∙ why in cc
+
 -- No words ask for two works.
 pub ruleset asked_apart = (
   not_both,
@@ -161,16 +193,26 @@ pub ruleset asked_apart = (
   not_dump_audit,
   not_import_audit,
   not_lab_audit,
+  not_replay_why,
+  not_check_why,
+  not_live_why,
+  not_make_why,
+  not_dump_why,
+  not_import_why,
+  not_lab_why,
+  not_audit_why,
 )
 
 -- words that ask for no work
 pub none_asked : (words : List (List ℕ)) → (AskReplay words → ⊥) → (AskCheck words → ⊥) → (AskDump words → ⊥) → (AskLab words → ⊥)
-    → (AskAudit words → ⊥)
+    → (AskAudit words → ⊥) → (AskWhy words → ⊥)
     → ((rounds : ℕ) → AsksMake words rounds → ⊥)
     → ((name : Name) (mac : Mac) → AsksImport words name mac → ⊥) → ((specs : List IfSpec) → AsksLive words specs → ⊥) → AskWork words → ⊥
-none_asked words replay check dump lab audit make import live asks =
-    let imports_or_later : AskImport words ⊎ (AskLab words ⊎ AskAudit words) → ⊥ = ⊎_elim (λ asked. import asked.0 asked.1 asked.2) (⊎_elim lab audit) in
-    let imports : AskDump words ⊎ (AskImport words ⊎ (AskLab words ⊎ AskAudit words)) → ⊥ = ⊎_elim dump imports_or_later in
+none_asked words replay check dump lab audit why make import live asks =
+    let audits : AskLab words ⊎ (AskAudit words ⊎ AskWhy words) → ⊥ = ⊎_elim lab (⊎_elim audit why) in
+    let imports_or_later : AskImport words ⊎ (AskLab words ⊎ (AskAudit words ⊎ AskWhy words)) → ⊥ =
+    ⊎_elim (λ asked. import asked.0 asked.1 asked.2) audits in
+    let imports : AskDump words ⊎ (AskImport words ⊎ (AskLab words ⊎ (AskAudit words ⊎ AskWhy words))) → ⊥ = ⊎_elim dump imports_or_later in
     let makes = ⊎_elim (λ asked. make asked.0 asked.1) imports in
     let lives = ⊎_elim (λ asked. live asked.0 asked.1) makes in
     ⊎_elim replay (⊎_elim check lives) asks

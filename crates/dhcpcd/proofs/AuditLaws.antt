@@ -1,16 +1,19 @@
--- What `audit` makes of an input: one thing, and over streams that don't fail what is due.
-use Rattle.std.proofs.Common.{ℕ, ◌≡◌, ◌<◌, ◌≤◌, Bool, true, false, List, length, Option, Some, refl, sym, subst, ap, arith}
+-- What `audit` makes of an input, and `audit why`: one thing, and over streams that don't fail what is due.
+use Rattle.std.proofs.Common.{ℕ, ◌≡◌, ◌<◌, ◌≤◌, Bool, true, false, List, [], ◌++◌, length, Option, Some, refl, sym, subst, ap, ◌∙◌, append-nil, arith}
 use Rattle.world.specs.declared.rows.HostRow.{HostRow}
 use Rattle.transcript_audit.specs.declared.verdict.Verdict.{Verdict}
 use Rattle.transcript_audit.specs.declared.verdict.Verdict.TheVariants.{Yes, No}
 use Rattle.transcript_audit.specs.Laws.{AVerdictIsOne}
 use Rattle.transcript_audit.specs.Verdicts.{IsJudged, NamesBad}
+use Rattle.audit_reasons.specs.Accounts.{IsExplained}
+use Rattle.audit_reasons.specs.Texts.{lines_text}
+use Rattle.audit_reasons.specs.declared.line.BasisLine.{BasisLine}
 use Rattle.dhcpcd.specs.declared.status.Status.{Status}
 use Rattle.dhcpcd.specs.declared.status.Status.TheVariants as status
-use Rattle.dhcpcd.specs.Auditing.{HasDueAnswer, IsAnsweredDuly, IsAuditAnswer, RefusesTranscript, auditing, verdict_text}
+use Rattle.dhcpcd.specs.Auditing.{HasDueAnswer, IsAnsweredDuly, IsAuditAnswer, IsNoOf, IsWhyAnswer, IsWhyOf, IsYesOf, RefusesTranscript, auditing, explaining, verdict_text}
 use Rattle.dhcpcd.specs.Input.{limit, IsTooLong}
 use Rattle.dhcpcd.specs.Statuses.{HasStatusCause}
-use Rattle.dhcpcd.specs.Works.{IsDecided, Tells}
+use Rattle.dhcpcd.specs.Works.{IsDecided, IsWorked, Tells, Work}
 use Rattle.dhcpcd.proofs.Endings.{read_is}
 
 -- ---- the text
@@ -22,6 +25,22 @@ says_yes bytes text lives turns judged says = record { lives = lives; turns = tu
 pub says_no : (bytes text : List ℕ) (life turn : ℕ) (row : HostRow) → IsJudged bytes (No life turn row) → text ≡ verdict_text (No life turn row)
     → Tells auditing false bytes text
 says_no bytes text life turn row judged says = record { life = life; turn = turn; row = row; judged = judged; says = says }
+
+pub says_why : (bytes text : List ℕ) (lives turns : ℕ) (lines : List BasisLine) → IsJudged bytes (Yes lives turns) → IsExplained bytes lines
+    → text ≡ verdict_text (Yes lives turns) ++ lines_text lines → Tells explaining true bytes text
+says_why bytes text lives turns lines judged explained says =
+    record { lives = lives; turns = turns; judged = judged; lines = lines; explained = explained; says = says }
+
+-- after a no nothing more is said
+pub says_no_more : (bytes text : List ℕ) (life turn : ℕ) (row : HostRow) (lines : List BasisLine) → IsJudged bytes (No life turn row) → lines ≡ []
+    → text ≡ verdict_text (No life turn row) ++ lines_text lines → Tells explaining false bytes text
+says_no_more bytes text life turn row lines judged none says = record {
+  life = life;
+  turn = turn;
+  row = row;
+  judged = judged;
+  says = says ∙ ap (λ (l : List BasisLine). verdict_text (No life turn row) ++ lines_text l) none ∙ append-nil (verdict_text (No life turn row));
+}
 
 -- ---- no two things
 
@@ -56,6 +75,17 @@ never_refused one bytes judged status.NoMemory refuses = absurd refuses
 pub auditing_is_decided : AVerdictIsOne → IsDecided auditing
 auditing_is_decided one = record {
   taken = λ bytes text answer tells refuses. never_refused one bytes (judged_so bytes text tells.0 tells.1) answer refuses;
+  apart = λ bytes text found gives finds.
+      yes_no (one.one bytes (Yes gives.lives gives.turns) (No finds.life finds.turn finds.row) gives.judged finds.judged);
+}
+
+explained_so : (bytes text : List ℕ) (good : Bool) → Tells explaining good bytes text → Judged bytes
+explained_so bytes text true tells = record { verdict = Yes tells.lives tells.turns; is = tells.judged }
+explained_so bytes text false tells = record { verdict = No tells.life tells.turn tells.row; is = tells.judged }
+
+pub explaining_is_decided : AVerdictIsOne → IsDecided explaining
+explaining_is_decided one = record {
+  taken = λ bytes text answer tells refuses. never_refused one bytes (explained_so bytes text tells.0 tells.1) answer refuses;
   apart = λ bytes text found gives finds.
       yes_no (one.one bytes (Yes gives.lives gives.turns) (No finds.life finds.turn finds.row) gives.judged finds.judged);
 }
@@ -112,26 +142,45 @@ as_told : (input : Option (List ℕ)) (bytes read : List ℕ) (answer : Status) 
     → HasDueAnswer bytes answer
 as_told input bytes read answer told same due = subst (λ (b : List ℕ). HasDueAnswer b answer) (sym same) due
 
-pub answered_duly : AVerdictIsOne → (answer : Status) (input old new : Option (List ℕ)) (a b p q : ℕ) → b ≡ a → q ≡ p → IsAuditAnswer answer input old new
+-- what such a work judges of a text that it gives
+record SaysYes (bytes : List ℕ) : Type 0 where
+  lives : ℕ
+  turns : ℕ
+  judged : IsJudged bytes (Yes lives turns)
+
+-- a work that finds and refuses as `audit` does
+abbrev audits : (List ℕ → List ℕ → Type 0) → Work
+audits Gives = record { Gives = Gives; Finds = IsNoOf; Refuses = RefusesTranscript }
+
+duly : (Gives : List ℕ → List ℕ → Type 0) → ((bytes text : List ℕ) → Gives bytes text → SaysYes bytes) → AVerdictIsOne → (answer : Status)
+    (input old new : Option (List ℕ)) (a b p q : ℕ) → b ≡ a → q ≡ p → IsWorked (audits Gives) answer input old new
     → HasStatusCause answer a b p q → IsAnsweredDuly input answer
-answered_duly one status.Done input old new a b p q read wrote answer cause = λ bytes told.
+duly Gives judges one status.Done input old new a b p q read wrote answer cause = λ bytes told.
     as_told input bytes answer.bytes status.Done told (read_is input bytes answer.bytes told answer.read)
-    (due_yes one answer.bytes answer.gives.lives answer.gives.turns answer.gives.judged answer.in_limit)
-answered_duly one status.Unjustified input old new a b p q read wrote answer cause = λ bytes told.
+    (let said = judges answer.bytes answer.text answer.gives in due_yes one answer.bytes said.lives said.turns said.judged answer.in_limit)
+duly Gives judges one status.Unjustified input old new a b p q read wrote answer cause = λ bytes told.
     as_told input bytes answer.bytes status.Unjustified told (read_is input bytes answer.bytes told answer.read)
     (due_no one answer.bytes answer.gives.life answer.gives.turn answer.gives.row answer.gives.judged answer.in_limit)
-answered_duly one (status.Transcript line) input old new a b p q read wrote answer cause = λ bytes told.
+duly Gives judges one (status.Transcript line) input old new a b p q read wrote answer cause = λ bytes told.
     as_told input bytes answer.bytes (status.Transcript line) told (read_is input bytes answer.bytes told answer.read)
     (due_bad one answer.bytes line answer.why answer.in_limit)
-answered_duly one status.TooLong input old new a b p q read wrote answer cause = λ bytes told. due_long bytes (subst IsTooLong told answer.0)
-answered_duly one status.NoMemory input old new a b p q read wrote answer cause = λ bytes told. due_none bytes
-answered_duly one status.ReadFault input old new a b p q read wrote answer cause = absurd (omega (arith, read, cause.0))
-answered_duly one status.WriteFault input old new a b p q read wrote answer cause = absurd (omega (arith, wrote, cause.1))
-answered_duly one status.Usage input old new a b p q read wrote answer cause = absurd answer
-answered_duly one status.LinkFault input old new a b p q read wrote answer cause = absurd answer
-answered_duly one status.TurnsOver input old new a b p q read wrote answer cause = absurd answer
-answered_duly one (status.Script fault) input old new a b p q read wrote answer cause = absurd answer.why
-answered_duly one (status.Conf fault) input old new a b p q read wrote answer cause = absurd answer.why
-answered_duly one (status.Lease line) input old new a b p q read wrote answer cause = absurd answer.why
-answered_duly one (status.Capture what) input old new a b p q read wrote answer cause = absurd answer.why
-answered_duly one (status.Schedule line) input old new a b p q read wrote answer cause = absurd answer.why
+duly Gives judges one status.TooLong input old new a b p q read wrote answer cause = λ bytes told. due_long bytes (subst IsTooLong told answer.0)
+duly Gives judges one status.NoMemory input old new a b p q read wrote answer cause = λ bytes told. due_none bytes
+duly Gives judges one status.ReadFault input old new a b p q read wrote answer cause = absurd (omega (arith, read, cause.0))
+duly Gives judges one status.WriteFault input old new a b p q read wrote answer cause = absurd (omega (arith, wrote, cause.1))
+duly Gives judges one status.Usage input old new a b p q read wrote answer cause = absurd answer
+duly Gives judges one status.LinkFault input old new a b p q read wrote answer cause = absurd answer
+duly Gives judges one status.TurnsOver input old new a b p q read wrote answer cause = absurd answer
+duly Gives judges one (status.Script fault) input old new a b p q read wrote answer cause = absurd answer.why
+duly Gives judges one (status.Conf fault) input old new a b p q read wrote answer cause = absurd answer.why
+duly Gives judges one (status.Lease line) input old new a b p q read wrote answer cause = absurd answer.why
+duly Gives judges one (status.Capture what) input old new a b p q read wrote answer cause = absurd answer.why
+duly Gives judges one (status.Schedule line) input old new a b p q read wrote answer cause = absurd answer.why
+
+pub answered_duly : AVerdictIsOne → (answer : Status) (input old new : Option (List ℕ)) (a b p q : ℕ) → b ≡ a → q ≡ p → IsAuditAnswer answer input old new
+    → HasStatusCause answer a b p q → IsAnsweredDuly input answer
+answered_duly one = duly IsYesOf (λ bytes text gives. record { lives = gives.lives; turns = gives.turns; judged = gives.judged }) one
+
+pub explained_duly : AVerdictIsOne → (answer : Status) (input old new : Option (List ℕ)) (a b p q : ℕ) → b ≡ a → q ≡ p → IsWhyAnswer answer input old new
+    → HasStatusCause answer a b p q → IsAnsweredDuly input answer
+explained_duly one = duly IsWhyOf (λ bytes text gives. record { lives = gives.lives; turns = gives.turns; judged = gives.judged }) one

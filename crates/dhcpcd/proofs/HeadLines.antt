@@ -11,7 +11,6 @@ use Rattle.net_types.proofs.ListLaws.{split_smaller}
 use Rattle.replay_text.specs.Blocks.{parts_of}
 use Rattle.replay_text.specs.ScriptContent.{lines_within, conf_lines}
 use Rattle.replay_text.proofs.BlockLaws.{parts_line, parts_joined, parts_lack}
-use Rattle.script_model.specs.Lines.{Line}
 use Rattle.script_model.specs.Lines as lines
 use Rattle.typed_lines.specs.TypedLines.{AreTyped}
 use Rattle.device_calls.specs.Printing.{Prints}

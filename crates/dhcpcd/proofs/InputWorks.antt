@@ -1,5 +1,5 @@
 -- What a lease file, a capture or a schedule gives, and how it is refused: never both.
-use Rattle.std.proofs.Common.{ℕ, ◌≡◌, Bool, true, false, List, Ok, Err, sym, subst, ap, ◌∙◌}
+use Rattle.std.proofs.Common.{ℕ, ◌≡◌, Bool, true, false, List, Ok, Err, sym, subst, ◌∙◌}
 use Rattle.net_types.specs.declared.interface.IfSpec.{IfSpec}
 use Rattle.lease_text.proofs.SpelledOnce.{no_bad_line}
 use Rattle.world.specs.HookCalls.{Variable}

@@ -1,7 +1,6 @@
 -- No two clients of a lab that `lab` writes hold one leased address.
-use Rattle.std.proofs.Common.{ℕ, ◌≡◌, List, Option, Ok, sym, subst, ◌∙◌}
+use Rattle.std.proofs.Common.{ℕ, ◌≡◌, List, Option, sym, subst, ◌∙◌}
 use Rattle.settings.specs.declared.interfaces.Managed.{Managed}
-use Rattle.conf_text.specs.Configurations.{Configuration, IsConfOf}
 use Rattle.conf_text.specs.Settings.{managed_of}
 use Rattle.lab_schedule.specs.Schedules.{FitsSchedule}
 use Rattle.lab_laws.specs.HeldInLabs.{EndsUnlike}
@@ -11,7 +10,7 @@ use Rattle.lab_laws.proofs.LastLines.{unlike_is_read}
 use Rattle.dhcpcd.specs.declared.status.Status.{Status}
 use Rattle.dhcpcd.specs.declared.status.Status.TheVariants as status
 use Rattle.dhcpcd.specs.Labs.{IsLabAnswer, IsLabOf, lab_work}
-use Rattle.dhcpcd.specs.LabsHeld.{EndsWith, HoldsApart, HoldsApartIn, IsHeldApart, LabsHoldApart}
+use Rattle.dhcpcd.specs.LabsHeld.{HoldsApartIn, IsHeldApart, LabsHoldApart}
 use Rattle.dhcpcd.specs.Works.{IsDone}
 use Rattle.dhcpcd.proofs.InputWorks.{lab_managed}
 use Rattle.dhcpcd.proofs.ManagedApart.{clients_are}

@@ -1,10 +1,13 @@
--- What `audit` writes and answers: the verdict on a transcript.
+-- What `audit` writes and answers: the verdict on a transcript; and `audit why`, which says why addresses may be held.
 use Rattle.std.specs.Prelude.{ℕ, ◌≡◌, ◌<◌, ◌≤◌, List, ◌++◌, length, codes, decimal, Option, Some}
 use Rattle.world.specs.declared.rows.HostRow.{HostRow}
 use Rattle.world.specs.RowText.{row_text}
 use Rattle.transcript_audit.specs.declared.verdict.Verdict.{Verdict}
 use Rattle.transcript_audit.specs.declared.verdict.Verdict.TheVariants.{Yes, No}
 use Rattle.transcript_audit.specs.Verdicts.{IsJudged, NamesBad}
+use Rattle.audit_reasons.specs.Accounts.{IsExplained}
+use Rattle.audit_reasons.specs.Texts.{lines_text}
+use Rattle.audit_reasons.specs.declared.line.BasisLine.{BasisLine}
 use Rattle.dhcpcd.specs.declared.status.Status.{Status}
 use Rattle.dhcpcd.specs.declared.status.Status.TheVariants as status
 use Rattle.dhcpcd.specs.Input.{limit}
@@ -33,6 +36,15 @@ pub record IsNoOf (bytes text : List ℕ) : Type 0 where
   pub judged : IsJudged bytes (No life turn row)
   pub says : text ≡ verdict_text (No life turn row)
 
+-- each address has its basis, and further lines say which those have that are shown at the ends of lives
+pub record IsWhyOf (bytes text : List ℕ) : Type 0 where
+  pub lives : ℕ
+  pub turns : ℕ
+  pub judged : IsJudged bytes (Yes lives turns)
+  pub lines : List BasisLine
+  pub explained : IsExplained bytes lines
+  pub says : text ≡ verdict_text (Yes lives turns) ++ lines_text lines
+
 -- ---- the answer
 
 -- the line is the first bad one
@@ -46,6 +58,13 @@ auditing = record { Gives = IsYesOf; Finds = IsNoOf; Refuses = RefusesTranscript
 -- what audit answers, by the input and by what is written before and after
 abbrev pub IsAuditAnswer : Status → (input old new : Option (List ℕ)) → Type 0
 IsAuditAnswer answer input old new = IsWorked auditing answer input old new
+
+abbrev pub explaining : Work
+explaining = record { Gives = IsWhyOf; Finds = IsNoOf; Refuses = RefusesTranscript }
+
+-- what audit why answers
+abbrev pub IsWhyAnswer : Status → (input old new : Option (List ℕ)) → Type 0
+IsWhyAnswer answer input old new = IsWorked explaining answer input old new
 
 -- ---- each input has its answer
 

@@ -51,12 +51,17 @@ AskLab words = words ≡ codes "lab" ∷ []
 abbrev pub AskAudit : List (List ℕ) → Type 0
 AskAudit words = words ≡ codes "audit" ∷ []
 
+-- the words are `audit` and `why`
+abbrev pub AskWhy : List (List ℕ) → Type 0
+AskWhy words = words ≡ codes "audit" ∷ codes "why" ∷ []
+
 -- the words are of one of these forms
 abbrev pub AskWork : List (List ℕ) → Type 0
 AskWork words =
     AskReplay words
     ⊎ (AskCheck words
-    ⊎ (AskLive words ⊎ (AskMake words ⊎ (AskDump words ⊎ (AskImport words ⊎ (AskLab words ⊎ AskAudit words))))))
+    ⊎ (AskLive words
+    ⊎ (AskMake words ⊎ (AskDump words ⊎ (AskImport words ⊎ (AskLab words ⊎ (AskAudit words ⊎ AskWhy words)))))))
 
 -- what words of none of these forms are answered; only those that begin with `live` may want memory
 abbrev pub IsUsage : List (List ℕ) → Status → Type 0

@@ -30,7 +30,7 @@ impl Display for VerdictLine {
 }
 
 /// The line that says a verdict.
-fn verdict_line(alloc: Global, verdict: Verdict) -> Result<Vec<u8>, NoMemory>
+pub fn verdict_line(alloc: Global, verdict: Verdict) -> Result<Vec<u8>, NoMemory>
     ensures { IfOk result (λ text. text.items ≡ verdict_text verdict) }
 {
     let line = String::format(alloc, VerdictLine(verdict))?;

@@ -4,6 +4,7 @@
 mod auditing;
 mod checking;
 mod dumping;
+mod explaining;
 mod heads;
 mod importing;
 mod input;

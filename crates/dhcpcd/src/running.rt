@@ -5,7 +5,7 @@ ghost use Rattle.std.specs.String.{string_bytes};
 ghost use Rattle.capture_script.specs.CapturedScripts.{spec_of};
 ghost use Rattle.net_types.specs.declared.address.Mac.{Mac};
 ghost use Rattle.net_types.specs.declared.interface.Name.{Name};
-ghost use Rattle.dhcpcd.specs.Auditing.{IsAnsweredDuly, IsAuditAnswer};
+ghost use Rattle.dhcpcd.specs.Auditing.{IsAnsweredDuly, IsAuditAnswer, IsWhyAnswer};
 ghost use Rattle.dhcpcd.specs.Checks.{IsCheckAnswer};
 ghost use Rattle.dhcpcd.specs.Dumping.{IsDumpAnswer};
 ghost use Rattle.dhcpcd.specs.Importing.{IsImportAnswer};
@@ -16,11 +16,12 @@ ghost use Rattle.dhcpcd.specs.Input.{ReadsWithin, input_told};
 ghost use Rattle.dhcpcd.specs.Living.{IsAnsweredLive, CompletesLife, HasLinkCause, around};
 ghost use Rattle.dhcpcd.specs.Statuses.{HasStatusCause, IsAnswer, Completes};
 ghost use Rattle.dhcpcd.specs.Making.{IsMadeAnswer};
-ghost use Rattle.dhcpcd.specs.Words.{AskAudit, AskCheck, AskDump, AskLab, AskReplay, AskLive, AskMake, AsksImport, AsksMake, AskWork, IsUsage};
+ghost use Rattle.dhcpcd.specs.Words.{AskAudit, AskCheck, AskDump, AskLab, AskReplay, AskLive, AskMake, AskWhy, AsksImport, AsksMake, AskWork, IsUsage};
 
 use crate::auditing::audit_transcript;
 use crate::checking::check;
 use crate::dumping::dump_lease;
+use crate::explaining::explain_transcript;
 use crate::importing::import_capture;
 use crate::labs::lab;
 use crate::living::live;
@@ -39,9 +40,10 @@ use world::{NoMemory, Sink, Source};
 /// its transcript has; it reads nothing. `dump` reads a lease file, and writes its variables; `import` reads a capture
 /// of packets, and writes its script. `lab` reads a schedule of clients and a server, lives it in memory, and writes
 /// what they send and hold. `audit` reads a transcript, and writes whether each address that it shows has its basis, or
-/// the first that has none. Other words are `Usage`, or `NoMemory` where they begin with `live`, and touch nothing.
-/// Where the input can't be read, is too long or is refused, nothing is written and no device is asked; after another
-/// end a front of the output stands written. No hook's child may run yet.
+/// the first that has none; `audit why` adds why each one may be held that is shown at the end of a life. Other words
+/// are `Usage`, or `NoMemory` where they begin with `live`, and touch nothing. Where the input can't be read, is too
+/// long or is refused, nothing is written and no device is asked; after another end a front of the output stands
+/// written. No hook's child may run yet.
 #[tactic(auto, using(crate::proofs::AskedApart::asked_apart, crate::proofs::MakeAnswers::make_beside))]
 pub fn run<I: Source, O: Sink, W: Outside>(
     alloc: Global,
@@ -72,6 +74,8 @@ pub fn run<I: Source, O: Sink, W: Outside>(
         → IsHeldApart (I.left input.old) (O.written out.old) (O.written out.new) }
     ensures audit { AskAudit (map string_bytes words.now)
         → IsAuditAnswer result (I.left input.old) (O.written out.old) (O.written out.new) }
+    ensures why { AskWhy (map string_bytes words.now)
+        → IsWhyAnswer result (I.left input.old) (O.written out.old) (O.written out.new) }
     ensures usage { (AskWork (map string_bytes words.now) → ⊥) → IsUsage (map string_bytes words.now) result }
     ensures formless { result ≡ Status.Usage → AskWork (map string_bytes words.now) → ⊥ }
     ensures unread { (AskWork (map string_bytes words.now) → ⊥)
@@ -114,6 +118,12 @@ pub fn run<I: Source, O: Sink, W: Outside>(
     ensures audits { AskAudit (map string_bytes words.now)
         → StreamsNeverFail (I.never_fails input.old) (O.never_fails out.old)
         → IsAnsweredDuly (I.left input.old) result }
+    ensures why_complete { AskWhy (map string_bytes words.now)
+        → StreamsHeld (I.faults input.old) (I.faults input.new) (O.faults out.old) (O.faults out.new)
+        → IsAnsweredDuly (I.left input.old) result }
+    ensures whys { AskWhy (map string_bytes words.now)
+        → StreamsNeverFail (I.never_fails input.old) (O.never_fails out.old)
+        → IsAnsweredDuly (I.left input.old) result }
     ensures live_complete { AskGoodLive (map string_bytes words.now) (I.left input.old)
         → StreamsHeld (I.faults input.old) (I.faults input.new) (O.faults out.old) (O.faults out.new)
         → WaitsHeld (W.seen devices.old) (W.seen devices.new)
@@ -139,6 +149,7 @@ pub fn run<I: Source, O: Sink, W: Outside>(
         Ok(Some(Work::Import(on))) => import_capture(alloc, on, input, out),
         Ok(Some(Work::Lab)) => lab(alloc, input, out),
         Ok(Some(Work::Audit)) => audit_transcript(alloc, input, out),
+        Ok(Some(Work::Why)) => explain_transcript(alloc, input, out),
         Ok(None) => Status::Usage,
         Err(NoMemory) => Status::NoMemory,
     }

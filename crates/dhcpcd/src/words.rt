@@ -32,6 +32,8 @@ pub enum Work {
     Lab,
     /// `audit`: a transcript is read, and the verdict on it written.
     Audit,
+    /// `audit why`: the same, and after a yes why each address may be held.
+    Why,
 }
 
 fn is_same(given: &str, word: &str) -> bool
@@ -49,6 +51,18 @@ pub fn is_alone(words: &[String], word: &str) -> bool
 {
     match words {
         [only] => is_same(only.as_str(), word),
+        _ => false,
+    }
+}
+
+/// Whether the words are these two, and no other.
+#[tactic(auto, using(crate::proofs::OneWord::two_words))]
+fn are_two(words: &[String], first: &str, second: &str) -> bool
+    ensures yes { result ≡ true → map string_bytes words.now ≡ first.now ∷ second.now ∷ [] }
+    ensures no { map string_bytes words.now ≡ first.now ∷ second.now ∷ [] → result ≡ true }
+{
+    match words {
+        [one, other] => is_same(one.as_str(), first) && is_same(other.as_str(), second),
         _ => false,
     }
 }
@@ -151,6 +165,9 @@ pub fn work_of(alloc: Global, words: &[String]) -> Result<Option<Work>, NoMemory
     }
     if is_alone(words, "audit") {
         return Ok(Some(Work::Audit));
+    }
+    if are_two(words, "audit", "why") {
+        return Ok(Some(Work::Why));
     }
     if let Some(rounds) = make_rounds(words) {
         return Ok(Some(Work::Make(rounds)));

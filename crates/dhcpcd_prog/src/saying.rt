@@ -5,7 +5,7 @@ use std::io::Result;
 
 /// The words that the program takes.
 const FORMS: &str =
-    "replay / check / live PORT PEER DIR SCRIPT IFACE.. / make N / dump / import NAME MAC / lab / audit";
+    "replay / check / live PORT PEER DIR SCRIPT IFACE.. / make N / dump / import NAME MAC / lab / audit / audit why";
 
 fn line(rt: &HostRuntime, status: Status) -> Result<()> {
     match status {

@@ -17,6 +17,7 @@ usage: dhcpcd replay < SCRIPT > TRANSCRIPT
        dhcpcd import NAME ADDRESS < CAPTURE > SCRIPT
        dhcpcd lab < SCHEDULE
        dhcpcd audit < TRANSCRIPT
+       dhcpcd audit why < TRANSCRIPT
        dhcpcd --help
        dhcpcd --version
 
@@ -36,6 +37,8 @@ lab reads a schedule of clients and one server on one clock, lives it in memory,
 and writes every frame and every lease that is held.
 audit reads a transcript. Where each address in it has its reason it writes yes
 and how many lives and turns there are, else no, a life, a turn and an address.
+audit why adds to a yes the reason of each address that is shown at the end of a
+life, with the turns on which it rests.
 An input has at most 16777216 bytes.
 
 exit status, with a line on standard error for each but 0:

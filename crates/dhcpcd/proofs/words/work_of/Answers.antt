@@ -17,6 +17,7 @@ returns-in-None-clause-asked c =
     (λ asks. true_false (sym (c.is_alone-3.ensures.no asks) ∙ c.if-is_alone-3.false))
     (λ asks. true_false (sym (c.is_alone-4.ensures.no asks) ∙ c.if-is_alone-4.false))
     (λ asks. true_false (sym (c.is_alone-5.ensures.no asks) ∙ c.if-is_alone-5.false))
+    (λ asks. true_false (sym (c.are_two.ensures.no asks) ∙ c.if-are_two.false))
     (subst (IsMakeRead words) unmade c.make_rounds.ensures)
     (subst (IsImportRead words) unimported c.imported_on.ensures)
     (subst (IsLiveRead words) unread c.in_ok-interfaces.ensures.read)
