@@ -194,7 +194,7 @@ module _ (site : Site) (g : Granted) where
 
 -- ---- the address
 
-probes_in : (site : Site) (addr : Ip4) (past : List Entry) (noarp : Bool) → site.managed.conf.noarp ≡ noarp
+probes_in : (site : Site) (addr : Ip4) (past : List Entry) (noarp : Bool) → site.managed.conf.flags.noarp ≡ noarp
     → (noarp ≡ false → Probed (Calm site) (λ first before. Unit {0}) site addr past)
     → ProbesShown site addr (if noarp then None else probed_turns_in (calm_in site) site addr past) past
 probes_in site addr past true is probed = is
@@ -227,7 +227,7 @@ module _ (site : Site) (net : Net4) (now : ℕ) (past : List Entry) (basis : Lea
         unexpired = basis.unexpired;
         probed =
             subst (λ (n : Net4). ProbesShown site basis.terms.net.ip (lease_turns_in site n.ip past).probed past) (sym same_net)
-            (probes_in site basis.terms.net.ip past site.managed.conf.noarp refl basis.probed);
+            (probes_in site basis.terms.net.ip past site.managed.conf.flags.noarp refl basis.probed);
       }
 
 shown_if : (site : Site) (net : Net4) (now : ℕ) (past : List Entry) (b : Bool) → is_leased site (V4 net) now past ≡ b
@@ -255,8 +255,8 @@ found_shown site (V6 net) now past = record {
 -- ---- and a basis
 
 probed_of : (site : Site) (addr : Ip4) (past : List Entry) (probed : Option ProbedTurns) → ProbesShown site addr probed past
-    → site.managed.conf.noarp ≡ false → Probed (Calm site) (λ first before. Unit {0}) site addr past
-probed_of site addr past None h off = absurd (let on : site.managed.conf.noarp ≡ true = h in cc)
+    → site.managed.conf.flags.noarp ≡ false → Probed (Calm site) (λ first before. Unit {0}) site addr past
+probed_of site addr past None h off = absurd (let on : site.managed.conf.flags.noarp ≡ true = h in cc)
 probed_of site addr past (Some turns) h off = to_probed (Calm site) Anything site addr turns past h
 
 pub shown_based : ShownLeasesHaveBases

@@ -41,7 +41,7 @@ granting_in site (e ∷ past) =
 abbrev pub lease_turns_in : Site → Ip4 → List Entry → LeaseTurns
 lease_turns_in site addr past = record {
   granting = granting_in site past;
-  probed = if site.managed.conf.noarp then None else probed_turns_in (calm_in site) site addr past;
+  probed = if site.managed.conf.flags.noarp then None else probed_turns_in (calm_in site) site addr past;
 }
 
 abbrev pub lease_found : Site → Net → (now : ℕ) → List Entry → Option LeaseTurns

@@ -22,7 +22,7 @@ pub record Opens (site : Site) (opened : Numbered) (e : Entry) (past : List Entr
 
 -- It was probed in these turns, or addresses aren't to be probed.
 abbrev pub ProbesShown : Site → Ip4 → Option ProbedTurns → List Entry → Type 0
-ProbesShown site addr None past = site.managed.conf.noarp ≡ true
+ProbesShown site addr None past = site.managed.conf.flags.noarp ≡ true
 ProbesShown site addr (Some turns) past = ProbedIn (Calm site) Anything site addr turns past
 
 -- The turns are those of the basis of a lease: an exchange opened in that of the REQUEST, and its first acceptable ACK

@@ -139,7 +139,7 @@ impl LeaseWalk {
         }
         Some(LeaseTurns {
             granting: self.granting,
-            probed: if site.managed.conf.noarp {
+            probed: if site.managed.conf.flags.noarp {
                 None
             } else {
                 self.probes.probed

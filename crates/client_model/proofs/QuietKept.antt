@@ -149,8 +149,8 @@ tick_still turn (Rebinding exchange terms acd due) =
     (detects_still turn exchange.xid terms (Rebinding exchange terms acd due) acd))
 
 granted_still : (turn : Turn4) (xid : ℕ) (terms : Terms4) (origin : Origin4) (stands : Option Terms4) → Stilly (granted turn xid terms origin stands)
-granted_still turn xid terms Offered stands = gated Stilly turn.site.noarp (binds turn xid terms news.Bound None) _ (λ n. cc) (λ n. refl)
-granted_still turn xid terms Rebooted stands = gated Stilly turn.site.noarp (binds turn xid terms news.Reboot None) _ (λ n. cc) (λ n. refl)
+granted_still turn xid terms Offered stands = gated Stilly turn.site.flags.noarp (binds turn xid terms news.Bound None) _ (λ n. cc) (λ n. refl)
+granted_still turn xid terms Rebooted stands = gated Stilly turn.site.flags.noarp (binds turn xid terms news.Reboot None) _ (λ n. cc) (λ n. refl)
 
 offered_still : (turn : Turn4) (xid secs : ℕ) (state : State4) (said : Answer4) → Stilly (offered turn xid secs state said)
 offered_still turn xid secs state (answer.Offer address server) n = refl
@@ -206,8 +206,8 @@ arp_still own turn arp (Rebinding exchange terms acd due) = contested_still own 
 begins_still : (turn : Turn4) (kept : Option Terms4) → Stilly (begins turn false kept)
 begins_still turn None = λ n. refl
 begins_still turn (Some terms) =
-    gated Stilly (is_due (expiry terms) turn.at || nat_eq turn.site.reboot 0) (to_init turn)
-    (rebooting turn (new_exchange turn terms.net.ip) Four (turn.at + SECOND * turn.site.reboot) (stood turn false terms)) (λ n. refl) (λ n. refl)
+    gated Stilly (is_due (expiry terms) turn.at || nat_eq turn.site.times.reboot 0) (to_init turn)
+    (rebooting turn (new_exchange turn terms.net.ip) Four (turn.at + SECOND * turn.site.times.reboot) (stood turn false terms)) (λ n. refl) (λ n. refl)
 
 rebind_still : (turn : Turn4) (kept : Option Terms4) (state : State4) → Stilly (rebind_row turn kept state)
 rebind_still turn kept Off = begins_still turn kept

@@ -151,9 +151,9 @@ module _ (name : Name) (fresh : List ValueContent) (kept : Option LeaseContent) 
   granted_keeps : (turn : Turn4) (xid : ℕ) (terms : Terms4) (origin : Origin4) (stands : Option Terms4) (old : State4) → held_in old ≡ held_by stands
       → KeepsHeld old (granted turn xid terms origin stands)
   granted_keeps turn xid terms Offered stands old same =
-      gated (KeepsHeld old) turn.site.noarp (binds turn xid terms news.Bound None) _ (λ e. cc) (λ e. sym same)
+      gated (KeepsHeld old) turn.site.flags.noarp (binds turn xid terms news.Bound None) _ (λ e. cc) (λ e. sym same)
   granted_keeps turn xid terms Rebooted stands old same =
-      gated (KeepsHeld old) turn.site.noarp (binds turn xid terms news.Reboot None) _ (λ e. cc) (λ e. sym same)
+      gated (KeepsHeld old) turn.site.flags.noarp (binds turn xid terms news.Reboot None) _ (λ e. cc) (λ e. sym same)
 
   offered_keeps : (turn : Turn4) (xid secs : ℕ) (state : State4) (said : Answer4) → held_in state ≡ None → KeepsHeld state (offered turn xid secs state said)
   offered_keeps turn xid secs state (answer.Offer address server) none e = sym none
@@ -210,7 +210,7 @@ module _ (name : Name) (fresh : List ValueContent) (kept : Option LeaseContent) 
 
   -- a client that may stand on no lease holds none as it begins
   stands_on_none : (turn : Turn4) (terms : Terms4) → stood turn false terms ≡ None
-  stands_on_none turn terms = never turn.site.persistent (is_some terms.origin)
+  stands_on_none turn terms = never turn.site.flags.persistent (is_some terms.origin)
     where
       never : (persistent known : Bool) → cond (persistent && false && known) (Some terms) None ≡ None
       never true known = refl
@@ -219,8 +219,8 @@ module _ (name : Name) (fresh : List ValueContent) (kept : Option LeaseContent) 
   begins_keeps : (turn : Turn4) (lease : Option Terms4) → KeepsHeld Off (begins turn false lease)
   begins_keeps turn None = λ e. refl
   begins_keeps turn (Some terms) =
-      gated (λ (step : Step4). KeepsHeld Off (record step { spends = true })) (is_due (expiry terms) turn.at || nat_eq turn.site.reboot 0) (to_init turn)
-      (rebooting turn (new_exchange turn terms.net.ip) Four (turn.at + SECOND * turn.site.reboot) (stood turn false terms)) (λ e. refl)
+      gated (λ (step : Step4). KeepsHeld Off (record step { spends = true })) (is_due (expiry terms) turn.at || nat_eq turn.site.times.reboot 0) (to_init turn)
+      (rebooting turn (new_exchange turn terms.net.ip) Four (turn.at + SECOND * turn.site.times.reboot) (stood turn false terms)) (λ e. refl)
       (λ e. ap held_by (stands_on_none turn terms))
 
   rebind_keeps : (turn : Turn4) (lease : Option Terms4) (state : State4) → KeepsHeld state (rebind_row turn lease state)

@@ -140,9 +140,9 @@ arm_stays iface (Waiting conflicts due) at waits fallback = refl
 armed_stays : (conf : IfConf) (at : ℕ) (iface : IfIndex) (state : State) → held_in (armed conf at (at_state iface state)).state ≡ held_in state
 armed_stays conf at iface state =
     gated (λ (local : LinkLocal). held_in local.state ≡ held_in state) (runs_dhcp4 conf) (armed_for_lease conf at (at_state iface state)) _
-    (gated (λ (local : LinkLocal). held_in local.state ≡ held_in state) (nat_eq conf.timeout 0) (at_state iface state)
-    (ll_armed (at_state iface state) (at + SECOND * conf.timeout) ForLease (fallback_of (chooses_local conf))) refl
-    (arm_stays iface state (at + SECOND * conf.timeout) ForLease (fallback_of (chooses_local conf))))
+    (gated (λ (local : LinkLocal). held_in local.state ≡ held_in state) (nat_eq conf.times.timeout 0) (at_state iface state)
+    (ll_armed (at_state iface state) (at + SECOND * conf.times.timeout) ForLease (fallback_of (chooses_local conf))) refl
+    (arm_stays iface state (at + SECOND * conf.times.timeout) ForLease (fallback_of (chooses_local conf))))
     (gated (λ (local : LinkLocal). held_in local.state ≡ held_in state) (chooses_local conf) (ll_armed (at_state iface state) at ForNothing Choose)
     (at_state iface state)
     (arm_stays iface state at ForNothing Choose) refl)

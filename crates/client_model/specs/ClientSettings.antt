@@ -4,7 +4,7 @@ use Rattle.std.specs.Prelude.{ℕ, Bool, not, ◌&&◌, if◌then◌else◌, Lis
 use Rattle.std.specs.Int.{w32, to_be_bytes}
 use Rattle.net_types.specs.declared.interface.IfSpec.{IfSpec}
 use Rattle.v4_message.specs.Requests.{AskContent}
-use Rattle.v4_client.specs.declared.settings.Site4.{Site4}
+use Rattle.v4_client.specs.declared.setup.Site4.{Site4}
 use Rattle.v4_client.specs.Messages.{is_among}
 use Rattle.v4_client.specs.Settings.{SettingsContent}
 use Rattle.settings.specs.declared.interfaces.IfConf.{IfConf}
@@ -15,7 +15,7 @@ use Rattle.v4_options.specs.declared.code.TheConstants.{SUBNET_MASK, CLASSLESS_R
 
 -- DHCPv4 runs where it isn't forbidden and no static address is given.
 abbrev pub runs_dhcp4 : IfConf → Bool
-runs_dhcp4 conf = not conf.nodhcp && not conf.ipv6only && is_none conf.address
+runs_dhcp4 conf = not conf.flags.nodhcp && not conf.flags.ipv6only && is_none conf.address
 
 -- ---- what the client asks for
 
@@ -57,14 +57,7 @@ ask_of duid managed = record {
 }
 
 abbrev pub site_of : Managed → Site4
-site_of managed = record {
-  iface = managed.spec;
-  nodelay = managed.conf.nodelay;
-  noarp = managed.conf.noarp;
-  broadcast = managed.conf.broadcast;
-  reboot = managed.conf.reboot;
-  persistent = managed.conf.persistent;
-}
+site_of managed = record { iface = managed.spec; flags = managed.conf.flags; times = managed.conf.times }
 
 abbrev pub settings_of : (duid : List ℕ) → Managed → SettingsContent
 settings_of duid managed = record {

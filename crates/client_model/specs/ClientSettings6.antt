@@ -2,8 +2,8 @@
 -- host.
 use Rattle.std.specs.Prelude.{ℕ, Bool, true, false, not, ◌&&◌, ◌||◌, List, [], ◌∷◌, map}
 use Rattle.std.specs.List.{list_any}
-use Rattle.v6_client.specs.declared.settings.IaAsk.{IaAsk}
-use Rattle.v6_client.specs.declared.settings.Site6.{Site6}
+use Rattle.v6_client.specs.declared.setup.IaAsk.{IaAsk}
+use Rattle.v6_client.specs.declared.setup.Site6.{Site6}
 use Rattle.v6_client.specs.Settings.{SettingsContent}
 use Rattle.settings.specs.declared.dhcp6_conf.IaConf.{IaConf}
 use Rattle.settings.specs.declared.interfaces.IfConf.{IfConf}
@@ -17,19 +17,13 @@ asks_some (ia ∷ ias) = true
 
 -- DHCPv6 runs where an IA is asked for, unless it is forbidden.
 abbrev pub runs_dhcp6 : IfConf → Bool
-runs_dhcp6 conf = asks_some conf.dhcp6.ias && not conf.nodhcp6 && not conf.ipv4only
+runs_dhcp6 conf = asks_some conf.dhcp6.ias && not conf.flags.nodhcp6 && not conf.flags.ipv4only
 
 abbrev pub ask_for : IaConf → IaAsk
 ask_for ia = record { kind = ia.kind; iaid = ia.iaid; hint = ia.hint }
 
 abbrev pub site6_of : Managed → Site6
-site6_of managed =
-    record {
-      iface = managed.spec;
-      nodelay = managed.conf.nodelay;
-      rapid = managed.conf.dhcp6.rapid;
-      persistent = managed.conf.persistent;
-    }
+site6_of managed = record { iface = managed.spec; flags = managed.conf.flags; rapid = managed.conf.dhcp6.rapid }
 
 abbrev pub settings6_of : (duid : List ℕ) → Managed → SettingsContent
 settings6_of duid managed = record { site = site6_of managed; duid = duid; asks = map ask_for managed.conf.dhcp6.ias }

@@ -126,7 +126,7 @@ rebound at salt iface = if iface.up then machines_rebind at salt iface else sile
 
 -- whether the server of a held lease is told at a stop
 abbrev pub told_at_stop : IfConf → Tell
-told_at_stop conf = if conf.release then Server else Nobody
+told_at_stop conf = if conf.flags.release then Server else Nobody
 
 -- something new that changes nothing more
 abbrev pub tells : News → Iface → IfaceStep

@@ -20,7 +20,7 @@ use Rattle.client_model.specs.IfaceSteps.{IfaceStep, silent}
 
 -- A link-local address is chosen where no static address is given, and it isn't forbidden.
 abbrev pub chooses_local : IfConf → Bool
-chooses_local conf = not conf.noipv4ll && not conf.ipv6only && is_none conf.address
+chooses_local conf = not conf.flags.noipv4ll && not conf.flags.ipv6only && is_none conf.address
 
 abbrev pub fallback_of : (chooses : Bool) → Fallback
 fallback_of true = Choose
@@ -29,8 +29,8 @@ fallback_of false = GoOff
 -- Where DHCPv4 runs, a lease is waited for, and then the timeout is told; with a timeout of 0 for ever.
 abbrev pub armed_for_lease : IfConf → (at : ℕ) → LinkLocal → LinkLocal
 armed_for_lease conf at local =
-    if conf.timeout == 0 then local
-    else ll_armed local (at + SECOND * conf.timeout) ForLease (fallback_of (chooses_local conf))
+    if conf.times.timeout == 0 then local
+    else ll_armed local (at + SECOND * conf.times.timeout) ForLease (fallback_of (chooses_local conf))
 
 -- Else link-local is due at once.
 abbrev pub armed : IfConf → (at : ℕ) → LinkLocal → LinkLocal

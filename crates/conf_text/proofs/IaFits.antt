@@ -12,11 +12,12 @@ use Rattle.conf_directives.specs.declared.values.ShareLine.{ShareLine}
 use Rattle.conf_directives.specs.Contents.{IaContent}
 use Rattle.conf_directives.specs.SayLaws.{FitsLine}
 use Rattle.conf_text.specs.Associations.{Association, association, associations, each_once, is_kept, is_same_ia}
-use Rattle.conf_text.specs.Choosing.{first_said, is_managed, scope_for, spec_named}
+use Rattle.conf_text.specs.Choosing.{is_managed, scope_for, spec_named}
 use Rattle.conf_text.specs.Configurations.{Configuration}
 use Rattle.conf_text.specs.Fits.{FitsSpec}
 use Rattle.conf_text.specs.Places.{is_named}
 use Rattle.conf_text.specs.Shares.{given_by, outlet_by, outlet_of, share_of, share_with, shared_by, shares_taken, sla_of, taken_after, taken_with}
+use Rattle.conf_text.specs.Values.{first_said}
 use Rattle.conf_text.proofs.FoundFits.{all_made, all_join, all_kept, either_fits, found_fit, found_in}
 use Rattle.conf_text.proofs.OnceLaws.{ia_in}
 use Rattle.conf_text.proofs.SaidFits.{FitsIa}

@@ -1,5 +1,5 @@
 -- What a scope says with one line more.
-use Rattle.std.proofs.Common.{◌≡◌, ◌+◌, Bool, true, false, ◌||◌, List, [], ◌∷◌, ◌++◌, filter_map, refl, ap, ◌∙◌, arith}
+use Rattle.std.proofs.Common.{◌≡◌, ℕ, ◌+◌, Bool, true, false, ◌||◌, List, [], ◌∷◌, ◌++◌, filter_map, refl, ap, ◌∙◌, arith}
 use Rattle.std.specs.List.{sum_by}
 use Rattle.std.proofs.Math.Bool.{or-false}
 use Rattle.std.proofs.lemmas.Grind.{common_steps, flat_map-append}
@@ -8,13 +8,16 @@ use Rattle.std.proofs.lemmas.List.Folds.{list_any-append}
 use Rattle.std.proofs.lemmas.List.Sums.{sum_by-append}
 use Rattle.conf_directives.specs.declared.names.FlagName.{FlagName}
 use Rattle.conf_directives.specs.declared.names.FlagName.TheVariants.{Ipv4Only, Ipv6Only, NoDhcp, NoDhcp6, NoIpv4ll, NoArp, NoDelay, Broadcast, Release, Persistent}
+use Rattle.conf_directives.specs.declared.names.SecondsName.{SecondsName}
+use Rattle.conf_directives.specs.declared.names.SecondsName.TheVariants.{Timeout, Reboot}
 use Rattle.conf_directives.specs.declared.names.CodeList.{CodeList}
 use Rattle.conf_directives.specs.declared.names.CodeList.TheVariants.{Asked, Refused, Required}
 use Rattle.conf_directives.specs.Contents.{DirectiveContent, CodesContent, StaticContent, Address, Routers, NameServers, DomainName, DomainSearch, Address6}
-use Rattle.conf_text.specs.Flags.{flags_of}
-use Rattle.conf_text.specs.Values.{flag_said, timeout_said, reboot_said, metric_said, host_said, vendor_said, identifier_said, codes_said, static_said, ia_said, env_said, blacklist_said}
+use Rattle.conf_text.specs.Flags.{flags_of, flags_with, with_flag}
+use Rattle.conf_text.specs.Times.{times_of, times_with, with_seconds}
+use Rattle.conf_text.specs.Values.{flag_said, seconds_said, metric_said, host_said, vendor_said, identifier_said, codes_said, static_said, ia_said, env_said, blacklist_said}
 use Rattle.conf_text.specs.Scopes.{codes_together, statics_together, scope_of}
-use Rattle.conf_text.specs.Steps.{with_flag, flags_with, both_codes, codes_with, with_static, statics_with, scope_with}
+use Rattle.conf_text.specs.Steps.{both_codes, codes_with, with_static, statics_with, scope_with}
 use Rattle.conf_text.proofs.ListLaws.{last_found, list_found, lists_found, with_found}
 
 or-true : (b : Bool) → (b || true) ≡ true
@@ -32,6 +35,10 @@ flags_more names NoDelay = simp (list_any-append, or-false, or-true)
 flags_more names Broadcast = simp (list_any-append, or-false, or-true)
 flags_more names Release = simp (list_any-append, or-false, or-true)
 flags_more names Persistent = simp (list_any-append, or-false, or-true)
+
+times_more : (lines : List (SecondsName × ℕ)) (line : SecondsName × ℕ) → times_of (lines ++ line ∷ []) ≡ with_seconds line (times_of lines)
+times_more lines (Timeout, seconds) = simp last_found
+times_more lines (Reboot, seconds) = simp last_found
 
 sum_one : (said : CodesContent) → sum_by (λ (said : CodesContent). said.words) (said ∷ []) ≡ said.words
 sum_one said = grind (arith, common_steps)
@@ -58,8 +65,7 @@ pub scope_more : (lines : List DirectiveContent) (said : DirectiveContent) → s
 unfolding scope_with
 scope_more lines said =
     let flags = with_found flag_said flags_of flags_with (λ xs. refl) flags_more lines said in
-    let timeout = last_found timeout_said lines said in
-    let reboot = last_found reboot_said lines said in
+    let times = with_found seconds_said times_of times_with (λ xs. refl) times_more lines said in
     let metric = last_found metric_said lines said in
     let host = last_found host_said lines said in
     let vendor = last_found vendor_said lines said in

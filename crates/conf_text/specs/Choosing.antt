@@ -1,6 +1,5 @@
 -- Which interfaces are managed, and what is said of an interface.
 use Rattle.std.specs.Prelude.{Bool, true, not, ◌&&◌, ◌||◌, ◌==◌, nat_eq, List, [], length, find, Option, option_map, unwrap_or}
-use Rattle.std.specs.Option.{option_or}
 use Rattle.std.specs.List.{list_any, starts_with}
 use Rattle.net_types.specs.declared.interface.Name.{Name}
 use Rattle.net_types.specs.declared.interface.IfSpec.{IfSpec}
@@ -33,7 +32,3 @@ spec_named specs name = find (λ spec. is_named name spec.name) specs
 abbrev pub scope_for : List BlockContent → Name → ScopeContent
 scope_for blocks name =
     unwrap_or (option_map (λ block. block.scope) (find (λ block. is_named name block.name) blocks)) (scope_of [])
-
--- the block before the global lines
-abbrev pub first_said : {X : Type 0} → (block global : Option X) → Option X
-first_said block global = option_or block global

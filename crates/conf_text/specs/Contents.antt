@@ -26,8 +26,7 @@ statics_content statics = record {
 abbrev pub scope_content : Scope → ScopeContent
 scope_content scope = record {
   flags = scope.flags;
-  timeout = scope.timeout;
-  reboot = scope.reboot;
+  times = scope.times;
   metric = scope.metric;
   host = text_content scope.host;
   vendor = text_content scope.vendor;

@@ -1,9 +1,9 @@
 -- Directives of one word, which are on where a line has them.
-use Rattle.std.specs.Prelude.{Bool, true, false, ◌||◌, List}
+use Rattle.std.specs.Prelude.{Bool, true, false, List, Option, Some, None}
 use Rattle.std.specs.List.{list_any}
 use Rattle.conf_directives.specs.declared.names.FlagName.{FlagName}
 use Rattle.conf_directives.specs.declared.names.FlagName.TheVariants.{Ipv4Only, Ipv6Only, NoDhcp, NoDhcp6, NoIpv4ll, NoArp, NoDelay, Broadcast, Release, Persistent}
-use Rattle.conf_text.specs.declared.flags.Flags.{Flags}
+use Rattle.settings.specs.declared.flags.Flags.{Flags}
 
 abbrev pub is_flag : FlagName → FlagName → Bool
 is_flag Ipv4Only Ipv4Only = true
@@ -32,17 +32,19 @@ flags_of names = record {
   persistent = list_any (is_flag Persistent) names;
 }
 
--- on in either
-abbrev pub either : Flags → Flags → Flags
-either one other = record {
-  ipv4only = one.ipv4only || other.ipv4only;
-  ipv6only = one.ipv6only || other.ipv6only;
-  nodhcp = one.nodhcp || other.nodhcp;
-  nodhcp6 = one.nodhcp6 || other.nodhcp6;
-  noipv4ll = one.noipv4ll || other.noipv4ll;
-  noarp = one.noarp || other.noarp;
-  nodelay = one.nodelay || other.nodelay;
-  broadcast = one.broadcast || other.broadcast;
-  release = one.release || other.release;
-  persistent = one.persistent || other.persistent;
-}
+-- with what one line more says
+abbrev pub with_flag : FlagName → Flags → Flags
+with_flag Ipv4Only on = record on { ipv4only = true }
+with_flag Ipv6Only on = record on { ipv6only = true }
+with_flag NoDhcp on = record on { nodhcp = true }
+with_flag NoDhcp6 on = record on { nodhcp6 = true }
+with_flag NoIpv4ll on = record on { noipv4ll = true }
+with_flag NoArp on = record on { noarp = true }
+with_flag NoDelay on = record on { nodelay = true }
+with_flag Broadcast on = record on { broadcast = true }
+with_flag Release on = record on { release = true }
+with_flag Persistent on = record on { persistent = true }
+
+abbrev pub flags_with : Flags → Option FlagName → Flags
+flags_with on None = on
+flags_with on (Some name) = with_flag name on

@@ -4,6 +4,7 @@ pub mod Standings
 pub mod Sayings
 pub mod Values
 pub mod Flags
+pub mod Times
 pub mod Scopes
 pub mod Limits
 pub mod Faults

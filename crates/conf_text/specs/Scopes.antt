@@ -1,14 +1,16 @@
 -- What the lines of a scope say together: those in front of all blocks, or those in the blocks of one interface.
 use Rattle.std.specs.Prelude.{ℕ, List, Option, Some, None}
-use Rattle.std.specs.List.{filter_map, flat_map, list_any, last_or, sum_by}
+use Rattle.std.specs.List.{filter_map, flat_map, list_any, sum_by}
 use Rattle.net_types.specs.declared.address.Ip4.{Ip4}
 use Rattle.net_types.specs.declared.address.Net4.{Net4}
 use Rattle.net_types.specs.declared.address.Net6.{Net6}
 use Rattle.conf_directives.specs.declared.names.CodeList.TheVariants.{Asked, Refused, Required}
 use Rattle.conf_directives.specs.Contents.{DirectiveContent, IdentifierContent, CodesContent, StaticContent, Address, Routers, NameServers, DomainName, DomainSearch, Address6, IaContent, EnvContent}
-use Rattle.conf_text.specs.declared.flags.Flags.{Flags}
+use Rattle.settings.specs.declared.flags.Flags.{Flags}
+use Rattle.conf_text.specs.declared.times.TimesSaid.{TimesSaid}
 use Rattle.conf_text.specs.Flags.{flags_of}
-use Rattle.conf_text.specs.Values.{flag_said, timeout_said, reboot_said, metric_said, host_said, vendor_said, identifier_said, codes_said, static_said, ia_said, env_said, blacklist_said}
+use Rattle.conf_text.specs.Times.{times_of}
+use Rattle.conf_text.specs.Values.{last_of, flag_said, seconds_said, metric_said, host_said, vendor_said, identifier_said, codes_said, static_said, ia_said, env_said, blacklist_said}
 
 pub record StaticsContent : Type 0 where
   pub address : Option Net4
@@ -20,8 +22,7 @@ pub record StaticsContent : Type 0 where
 
 pub record ScopeContent : Type 0 where
   pub flags : Flags
-  pub timeout : Option ℕ
-  pub reboot : Option ℕ
+  pub times : TimesSaid
   pub metric : Option ℕ
   pub host : Option (List ℕ)
   pub vendor : Option (List ℕ)
@@ -33,10 +34,6 @@ pub record ScopeContent : Type 0 where
   pub ias : List IaContent
   pub env : List EnvContent
   pub blacklist : List Net4
-
--- of single values the last counts
-abbrev pub last_of : {X Y : Type 0} → (X → Option Y) → List X → Option Y
-last_of value lines = last_or None (filter_map value lines)
 
 abbrev pub codes_together : List CodesContent → CodesContent
 codes_together lines = record {
@@ -83,8 +80,7 @@ statics_together values = record {
 abbrev pub scope_of : List DirectiveContent → ScopeContent
 scope_of lines = record {
   flags = flags_of (filter_map flag_said lines);
-  timeout = last_of timeout_said lines;
-  reboot = last_of reboot_said lines;
+  times = times_of (filter_map seconds_said lines);
   metric = last_of metric_said lines;
   host = last_of host_said lines;
   vendor = last_of vendor_said lines;

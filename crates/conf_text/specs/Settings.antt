@@ -9,16 +9,17 @@ use Rattle.settings.specs.declared.interfaces.Managed.{Managed}
 use Rattle.settings.specs.Dhcp4Settings.{Dhcp4Settings}
 use Rattle.settings.specs.Dhcp4Settings as settings
 use Rattle.settings.specs.Dhcp6Settings.{Dhcp6Settings}
+use Rattle.settings.specs.Flags.{either}
 use Rattle.settings.specs.HookSettings.{HookSettings, ScriptContent, Nothing, Default, At}
 use Rattle.settings.specs.ResolverSettings.{ResolverSettings}
 use Rattle.conf_directives.specs.Contents.{EnvContent, IdentifierContent, Hardware, Bytes, Duid}
-use Rattle.conf_text.specs.declared.managing.TheConstants.{DEFAULT_TIMEOUT, DEFAULT_REBOOT}
 use Rattle.conf_text.specs.Associations.{ias_of}
-use Rattle.conf_text.specs.Flags.{either}
 use Rattle.conf_text.specs.Scopes.{ScopeContent, StaticsContent}
-use Rattle.conf_text.specs.Choosing.{first_said, is_managed, scope_for}
+use Rattle.conf_text.specs.Choosing.{is_managed, scope_for}
 use Rattle.conf_text.specs.Configurations.{Configuration}
 use Rattle.conf_text.specs.Shares.{shares_of}
+use Rattle.conf_text.specs.Times.{times_in_force}
+use Rattle.conf_text.specs.Values.{first_said}
 
 -- ---- what is in force
 
@@ -86,30 +87,18 @@ hooks_in_force script global block =
 
 -- single values are the block's, else the global ones; flags are on in either
 abbrev pub in_force : Dhcp6Settings → HookSettings → (global block : ScopeContent) → IfConf
-in_force dhcp6 hooks global block =
-    let flags = either global.flags block.flags in
-    record {
-      ipv4only = flags.ipv4only;
-      ipv6only = flags.ipv6only;
-      nodhcp = flags.nodhcp;
-      nodhcp6 = flags.nodhcp6;
-      noipv4ll = flags.noipv4ll;
-      nodelay = flags.nodelay;
-      noarp = flags.noarp;
-      broadcast = flags.broadcast;
-      release = flags.release;
-      timeout = unwrap_or (first_said block.timeout global.timeout) DEFAULT_TIMEOUT;
-      reboot = unwrap_or (first_said block.reboot global.reboot) DEFAULT_REBOOT;
-      metric = first_said block.metric global.metric;
-      address = first_said block.statics.address global.statics.address;
-      address6 = first_said block.statics.address6 global.statics.address6;
-      router = option_and_then first_router (first_said block.statics.routers global.statics.routers);
-      dhcp4 = dhcp4_in_force global block;
-      dhcp6 = dhcp6;
-      resolver = resolver_in_force global.statics block.statics;
-      hooks = hooks;
-      persistent = flags.persistent;
-    }
+in_force dhcp6 hooks global block = record {
+  flags = either global.flags block.flags;
+  times = times_in_force global.times block.times;
+  metric = first_said block.metric global.metric;
+  address = first_said block.statics.address global.statics.address;
+  address6 = first_said block.statics.address6 global.statics.address6;
+  router = option_and_then first_router (first_said block.statics.routers global.statics.routers);
+  dhcp4 = dhcp4_in_force global block;
+  dhcp6 = dhcp6;
+  resolver = resolver_in_force global.statics block.statics;
+  hooks = hooks;
+}
 
 -- for the interface that has this block, among all of them
 abbrev pub in_force_among : Configuration → (specs : List IfSpec) → IfSpec → (block : ScopeContent) → IfConf

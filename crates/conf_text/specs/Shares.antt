@@ -11,9 +11,10 @@ use Rattle.conf_directives.specs.declared.values.ShareLine.{ShareLine}
 use Rattle.conf_directives.specs.Contents.{IaContent}
 use Rattle.conf_text.specs.declared.sharing.TheConstants.{METRIC_BASE}
 use Rattle.conf_text.specs.Associations.{Association, associations}
-use Rattle.conf_text.specs.Choosing.{first_said, is_managed, scope_for, spec_named}
+use Rattle.conf_text.specs.Choosing.{is_managed, scope_for, spec_named}
 use Rattle.conf_text.specs.Configurations.{Configuration}
 use Rattle.conf_text.specs.Places.{is_named}
+use Rattle.conf_text.specs.Values.{first_said}
 
 -- ---- which shares are taken
 

@@ -3,8 +3,6 @@ use Rattle.std.specs.Prelude.{◌≡◌, ℕ, suc, ◌+◌, ◌<◌, ◌^◌, Bo
 use Rattle.std.specs.Option.{option_or}
 use Rattle.net_types.specs.declared.interface.Name.{Name}
 use Rattle.conf_words.specs.Directives.{Directive}
-use Rattle.conf_directives.specs.declared.names.FlagName.{FlagName}
-use Rattle.conf_directives.specs.declared.names.FlagName.TheVariants.{Ipv4Only, Ipv6Only, NoDhcp, NoDhcp6, NoIpv4ll, NoArp, NoDelay, Broadcast, Release, Persistent}
 use Rattle.conf_directives.specs.declared.names.CodeList.TheVariants.{Asked, Refused, Required}
 use Rattle.conf_directives.specs.declared.names.InterfaceList.TheVariants.{Allowed, Denied}
 use Rattle.conf_directives.specs.declared.values.Directive.{Directive as RustDirective}
@@ -17,36 +15,21 @@ use Rattle.conf_text.specs.declared.answers.ConfCause.{ConfCause}
 use Rattle.conf_text.specs.declared.answers.ConfCause.TheVariants.{BadArgument, TooMany}
 use Rattle.conf_text.specs.declared.counting.Counts.{Counts}
 use Rattle.conf_text.specs.declared.counting.TheConstants.{MOST_BLOCKS}
-use Rattle.conf_text.specs.declared.flags.Flags.{Flags}
 use Rattle.conf_text.specs.declared.reader.Reader.{Reader}
 use Rattle.conf_text.specs.declared.reader.Spot.{Spot}
 use Rattle.conf_text.specs.declared.reader.Spot.TheVariants as Spots
 use Rattle.conf_text.specs.Contents.{configuration}
 use Rattle.conf_text.specs.Configurations.{BlockContent, Configuration, configured, notice_of}
 use Rattle.conf_text.specs.Faults.{cause_from}
+use Rattle.conf_text.specs.Flags.{flags_with}
 use Rattle.conf_text.specs.Numbering.{line_number}
 use Rattle.conf_text.specs.Places.{Place, Global, Block, Skipped, is_named}
 use Rattle.conf_text.specs.Standings.{Standing, Stands}
-use Rattle.conf_text.specs.Values.{flag_said, timeout_said, reboot_said, metric_said, host_said, vendor_said, identifier_said, codes_said, static_said, ia_said, env_said, blacklist_said, interfaces_said, script_said}
+use Rattle.conf_text.specs.Times.{times_with}
+use Rattle.conf_text.specs.Values.{flag_said, seconds_said, metric_said, host_said, vendor_said, identifier_said, codes_said, static_said, ia_said, env_said, blacklist_said, interfaces_said, script_said}
 use Rattle.conf_text.specs.Scopes.{StaticsContent, ScopeContent, scope_of}
 
 -- ---- a scope with what one line more says
-
-abbrev pub with_flag : FlagName → Flags → Flags
-with_flag Ipv4Only on = record on { ipv4only = true }
-with_flag Ipv6Only on = record on { ipv6only = true }
-with_flag NoDhcp on = record on { nodhcp = true }
-with_flag NoDhcp6 on = record on { nodhcp6 = true }
-with_flag NoIpv4ll on = record on { noipv4ll = true }
-with_flag NoArp on = record on { noarp = true }
-with_flag NoDelay on = record on { nodelay = true }
-with_flag Broadcast on = record on { broadcast = true }
-with_flag Release on = record on { release = true }
-with_flag Persistent on = record on { persistent = true }
-
-abbrev pub flags_with : Flags → Option FlagName → Flags
-flags_with on None = on
-flags_with on (Some name) = with_flag name on
 
 abbrev pub both_codes : CodesContent → CodesContent → CodesContent
 both_codes one other =
@@ -79,8 +62,7 @@ list_on list (Some items) = list ++ items
 unfoldable pub scope_with : ScopeContent → DirectiveContent → ScopeContent
 scope_with scope said = record {
   flags = flags_with scope.flags (flag_said said);
-  timeout = option_or (timeout_said said) scope.timeout;
-  reboot = option_or (reboot_said said) scope.reboot;
+  times = times_with scope.times (seconds_said said);
   metric = option_or (metric_said said) scope.metric;
   host = option_or (host_said said) scope.host;
   vendor = option_or (vendor_said said) scope.vendor;

@@ -1,8 +1,10 @@
 -- What directives say, one kind of value at a time.
 use Rattle.std.specs.Prelude.{ℕ, List, Option, Some, None}
+use Rattle.std.specs.List.{filter_map, last_or}
+use Rattle.std.specs.Option.{option_or}
 use Rattle.net_types.specs.declared.address.Net4.{Net4}
 use Rattle.conf_directives.specs.declared.names.FlagName.{FlagName}
-use Rattle.conf_directives.specs.declared.names.SecondsName.TheVariants.{Timeout, Reboot}
+use Rattle.conf_directives.specs.declared.names.SecondsName.{SecondsName}
 use Rattle.conf_directives.specs.declared.names.CodeList.{CodeList}
 use Rattle.conf_directives.specs.declared.names.CodeList.TheVariants.{Asked, Refused, Required}
 use Rattle.conf_directives.specs.declared.names.InterfaceList.{InterfaceList}
@@ -10,17 +12,23 @@ use Rattle.conf_directives.specs.declared.names.InterfaceList.TheVariants.{Allow
 use Rattle.conf_directives.specs.declared.values.Pattern.{Pattern}
 use Rattle.conf_directives.specs.Contents.{DirectiveContent, Flag, Seconds, Metric, HostName, VendorClass, ClientIs, Codes, Static, Ia, Variable, Blacklist, Interfaces, Script, IdentifierContent, CodesContent, StaticContent, IaContent, EnvContent}
 
+-- of single values the last counts
+abbrev pub last_of : {X Y : Type 0} → (X → Option Y) → List X → Option Y
+last_of value lines = last_or None (filter_map value lines)
+
+-- the block before the global lines
+abbrev pub first_said : {X : Type 0} → (block global : Option X) → Option X
+first_said block global = option_or block global
+
+-- ---- of one line
+
 abbrev pub flag_said : DirectiveContent → Option FlagName
 flag_said (Flag name) = Some name
 flag_said _ = None
 
-abbrev pub timeout_said : DirectiveContent → Option ℕ
-timeout_said (Seconds Timeout seconds) = Some seconds
-timeout_said _ = None
-
-abbrev pub reboot_said : DirectiveContent → Option ℕ
-reboot_said (Seconds Reboot seconds) = Some seconds
-reboot_said _ = None
+abbrev pub seconds_said : DirectiveContent → Option (SecondsName × ℕ)
+seconds_said (Seconds name seconds) = Some (name, seconds)
+seconds_said _ = None
 
 abbrev pub metric_said : DirectiveContent → Option ℕ
 metric_said (Metric metric) = Some metric

@@ -23,6 +23,7 @@ mod scope;
 mod sharing;
 mod statics;
 mod subject;
+mod times;
 
 pub use answers::{ConfAnswer, ConfCause, ConfFault};
 pub use conf::{Conf, Notice, notices};

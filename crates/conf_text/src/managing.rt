@@ -3,7 +3,7 @@ ghost use Rattle.std.specs.Prelude.{◌≡◌, ◌++◌, option_and_then, option
 ghost use Rattle.std.specs.List.{cons_option};
 ghost use Rattle.settings.specs.Dhcp4Settings.{identifier_in};
 ghost use Rattle.conf_directives.specs.Contents.{identifier_content};
-ghost use Rattle.conf_text.specs.Choosing.{first_said};
+ghost use Rattle.conf_text.specs.Values.{first_said};
 ghost use Rattle.conf_text.specs.Contents.{configuration, scope_content};
 ghost use Rattle.conf_text.specs.Fits.{SettingsFit};
 ghost use Rattle.conf_text.specs.Settings.{dhcp4_in_force, dhcp6_in_force, first_router, identifier_or_hardware, in_force, in_force_among};
@@ -22,11 +22,6 @@ use conf_directives::Identifier as IdentifierSaid;
 use net_types::{IfSpec, Ip4, NoMemory};
 use settings::{Dhcp4Conf, Dhcp6Conf, HookConf, Identifier, IfConf, Managed};
 use std::alloc::Global;
-
-/// For how many seconds a lease is waited for where no line says it.
-pub(crate) const DEFAULT_TIMEOUT: u32 = 30;
-/// For how many seconds a kept lease is asked for again where no line says it.
-pub(crate) const DEFAULT_REBOOT: u32 = 5;
 
 /// What tells the client apart: the hardware address where no line says it.
 fn identifier_of(alloc: Global, identifier: &Option<IdentifierSaid>) -> Result<Identifier, NoMemory>
@@ -102,22 +97,12 @@ fn in_force(
 ) -> Result<IfConf, NoMemory>
     ensures { IfOk result (λ conf. conf ≡ in_force dhcp6 hooks (scope_content global.now) (scope_content block.now)) }
 {
-    let flags = global.flags.or(block.flags);
     let router = router_in_force(&block.statics.routers, &global.statics.routers);
     let dhcp4 = dhcp4_in_force(alloc, global, block)?;
     let resolver = resolver_in_force(alloc, &global.statics, &block.statics)?;
     Ok(IfConf {
-        ipv4only: flags.ipv4only,
-        ipv6only: flags.ipv6only,
-        nodhcp: flags.nodhcp,
-        nodhcp6: flags.nodhcp6,
-        noipv4ll: flags.noipv4ll,
-        nodelay: flags.nodelay,
-        noarp: flags.noarp,
-        broadcast: flags.broadcast,
-        release: flags.release,
-        timeout: block.timeout.or(global.timeout).unwrap_or(DEFAULT_TIMEOUT),
-        reboot: block.reboot.or(global.reboot).unwrap_or(DEFAULT_REBOOT),
+        flags: global.flags.or(block.flags),
+        times: block.times.in_force(global.times),
         metric: block.metric.or(global.metric),
         address: block.statics.address.or(global.statics.address),
         address6: block.statics.address6.or(global.statics.address6),
@@ -126,7 +111,6 @@ fn in_force(
         dhcp6,
         resolver,
         hooks,
-        persistent: flags.persistent,
     })
 }
 

@@ -1,15 +1,17 @@
 //! What the lines of a scope say together.
 ghost use Rattle.std.specs.Prelude.{◌≡◌, ◌+◌, ◌<◌, ◌^◌, [], OnOk};
-ghost use Rattle.conf_directives.specs.Contents.{Codes, Seconds, codes_content, directive_content};
+ghost use Rattle.conf_directives.specs.Contents.{Codes, codes_content, directive_content};
 ghost use Rattle.conf_text.specs.Contents.{scope_content};
 ghost use Rattle.conf_text.specs.Scopes.{codes_together, scope_of};
 ghost use Rattle.conf_text.specs.Steps.{FitsWords, both_codes, scope_counts, scope_with};
 
 use crate::counting::Counts;
-use crate::flags::Flags;
+use crate::flags::turn_on;
 use crate::statics::Statics;
-use conf_directives::{CodeList, CodesSaid, Directive, Env, IaLine, Identifier, SecondsName};
+use crate::times::TimesSaid;
+use conf_directives::{CodeList, CodesSaid, Directive, Env, IaLine, Identifier};
 use net_types::{Net4, NoMemory};
+use settings::Flags;
 use std::alloc::Global;
 
 /// What the lines in front of all blocks say, or those in the blocks of one interface: of single values what the last
@@ -17,9 +19,7 @@ use std::alloc::Global;
 #[derive(Drop)]
 pub struct Scope {
     pub flags: Flags,
-    /// In seconds.
-    pub timeout: Option<u32>,
-    pub reboot: Option<u32>,
+    pub times: TimesSaid,
     pub metric: Option<u32>,
     pub host: Option<Vec<u8>>,
     pub vendor: Option<Vec<u8>>,
@@ -61,8 +61,7 @@ impl Scope {
     {
         Scope {
             flags: Flags::none(),
-            timeout: None,
-            reboot: None,
+            times: TimesSaid::none(),
             metric: None,
             host: None,
             vendor: None,
@@ -74,16 +73,6 @@ impl Scope {
             ias: Vec::new(alloc),
             env: Vec::new(alloc),
             blacklist: Vec::new(alloc),
-        }
-    }
-
-    #[tactic(auto, unfolding(crate::specs::Steps::scope_with))]
-    fn say_seconds(&mut self, name: SecondsName, seconds: u32)
-        ensures { scope_content self.new ≡ scope_with (scope_content self.old) (Seconds name seconds) }
-    {
-        match name {
-            SecondsName::Timeout => self.timeout = Some(seconds),
-            SecondsName::Reboot => self.reboot = Some(seconds),
         }
     }
 
@@ -108,8 +97,8 @@ impl Scope {
             (scope_content self.new ≡ scope_with (scope_content self.old) (directive_content directive)) }
     {
         match directive {
-            Directive::Flag(name) => self.flags.turn_on(name),
-            Directive::Seconds(name, seconds) => self.say_seconds(name, seconds),
+            Directive::Flag(name) => turn_on(&mut self.flags, name),
+            Directive::Seconds(name, seconds) => self.times.say(name, seconds),
             Directive::Metric(metric) => self.metric = Some(metric),
             Directive::HostName(name) => self.host = Some(name),
             Directive::VendorClass(class) => self.vendor = Some(class),

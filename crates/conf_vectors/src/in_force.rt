@@ -38,9 +38,9 @@ fn identifier_said(identifier: &Identifier) -> &'static str {
 fn flags_said(alloc: Global, set: &IfConf) -> Result<String, NoMemory> {
     let mut said = String::new(alloc);
     for (is_set, flag) in [
-        (set.nodelay, " nodelay"),
-        (set.release, " release"),
-        (set.persistent, " persistent"),
+        (set.flags.nodelay, " nodelay"),
+        (set.flags.release, " release"),
+        (set.flags.persistent, " persistent"),
         (set.dhcp6.rapid, " rapid"),
     ] {
         if is_set {
@@ -69,7 +69,7 @@ fn in_force_said(alloc: Global, set: &IfConf) -> Result<String, NoMemory> {
     let flags = flags_said(alloc, set)?;
     let associations = associations_said(alloc, &set.dhcp6)?;
     let metric = set.metric;
-    let (timeout, reboot) = (set.timeout, set.reboot);
+    let (timeout, reboot) = (set.times.timeout, set.times.reboot);
     let (identifier, refused) = (identifier_said(&set.dhcp4.identifier), &set.dhcp4.refused);
     Ok(format!(in alloc;
         "metric {metric:?} timeout {timeout} reboot {reboot} refused {refused:?} by {identifier}{flags}{associations}"

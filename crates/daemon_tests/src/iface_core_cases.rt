@@ -9,6 +9,7 @@ use iface_core::{Outs, Told, Turn, TurnInput, iface_due, iface_input, iface_tick
 use ipv4ll::ll_off;
 use machine::has_come;
 use net_types::{IfIndex, NoMemory};
+use settings::{Flags, Times};
 use std::alloc::Global;
 use std::test::*;
 use v4_client::{Client4, Set4, client4_new};
@@ -25,23 +26,27 @@ const PAYLOAD: usize = 62;
 /// The type of a message that looks for servers (RFC 8415, section 7.3).
 const SOLICIT: u8 = 1;
 
+fn no_delay() -> Flags {
+    Flags {
+        nodelay: true,
+        ..Flags::none()
+    }
+}
+
 fn dhcp4(alloc: Global) -> Result<Client4, Fail> {
     let set = Set4 {
         iface: spec(INDEX)?,
+        flags: no_delay(),
+        times: Times::usual(),
         ask: Ask4 {
             client_id: Vec::new(alloc),
             vendor: Vec::new(alloc),
             host: Vec::new(alloc),
             list: Vec::new(alloc),
         },
-        nodelay: true,
-        noarp: false,
-        broadcast: false,
-        reboot: 5,
         required: Vec::new(alloc),
         refused: Vec::new(alloc),
         blacklist: Vec::new(alloc),
-        persistent: false,
     };
     Ok(client4_new(alloc, set, None))
 }
@@ -57,11 +62,10 @@ fn dhcp6(alloc: Global) -> Result<Client6, Fail> {
     };
     let set = Set6 {
         iface: spec(INDEX)?,
+        flags: no_delay(),
         duid,
         ias: Vec::from_slice(alloc, &[ask])?,
-        nodelay: true,
         rapid: false,
-        persistent: false,
     };
     Ok(client6_new(alloc, set, None))
 }

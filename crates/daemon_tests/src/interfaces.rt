@@ -10,7 +10,8 @@ ghost use Rattle.world.specs.Rows.{IsInterface};
 
 use net_types::{IfIndex, IfSpec, Ip6, Mac, Net6, read_name};
 use settings::{
-    Dhcp4Conf, Dhcp6Conf, HookConf, IaConf, Identifier, IfConf, Managed, ResolverConf, Script,
+    Dhcp4Conf, Dhcp6Conf, Flags, HookConf, IaConf, Identifier, IfConf, Managed, ResolverConf,
+    Script, Times,
 };
 use std::alloc::Global;
 use std::test::Fail;
@@ -98,17 +99,12 @@ pub(crate) fn managed(alloc: Global, index: IfIndex) -> Result<Managed, Fail>
     let spec = spec(index)?;
     let dhcp6 = dhcp6_conf(alloc)?;
     let conf = IfConf {
-        ipv4only: false,
-        ipv6only: true,
-        nodhcp: false,
-        nodhcp6: false,
-        noipv4ll: false,
-        nodelay: true,
-        noarp: false,
-        broadcast: false,
-        release: false,
-        timeout: 30,
-        reboot: 5,
+        flags: Flags {
+            ipv6only: true,
+            nodelay: true,
+            ..Flags::none()
+        },
+        times: Times::usual(),
         metric: None,
         address: None,
         address6: Some(NET),
@@ -117,7 +113,6 @@ pub(crate) fn managed(alloc: Global, index: IfIndex) -> Result<Managed, Fail>
         dhcp6,
         resolver: resolver_conf(alloc),
         hooks: hook_conf(alloc),
-        persistent: false,
     };
     Ok(Managed { spec, conf })
 }

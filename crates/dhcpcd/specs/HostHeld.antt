@@ -39,7 +39,7 @@ pub record HoldsRightly (managed : List Managed) (specs : List IfSpec) (world : 
       → HoldsUnlessFailed managed world.host.failing world.host.told.rows
       (table_of (life_run managed specs world earlier)) (lived_on managed specs world earlier given)
   pub opening_starts : WantsStaticOrKept managed specs (opening_of managed specs world)
-  pub plain_starts : AllByRecursion (λ (m : Managed). m.conf.persistent ≡ false) managed
+  pub plain_starts : AllByRecursion (λ (m : Managed). m.conf.flags.persistent ≡ false) managed
       → WantsStaticAlone managed specs (opening_of managed specs world)
   pub opening_rests : GoesWell (unknown_table world.host.told) (running_opened managed specs world) managed world
       → RestOnEvidence managed specs (opening_of managed specs world) []

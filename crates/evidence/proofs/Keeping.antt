@@ -142,8 +142,8 @@ apart a b h = grind (arith, nat_tests)
 begins_unbound : (turn : Turn4) (may_stand : Bool) (kept : Option Terms4) → is_bound (begins turn may_stand kept).state ≡ false
 begins_unbound turn may_stand None = refl
 begins_unbound turn may_stand (Some terms) =
-    gated (λ (step : Step4). is_bound step.state ≡ false) (is_due (expiry terms) turn.at || nat_eq turn.site.reboot 0) (to_init turn)
-    (rebooting turn (new_exchange turn terms.net.ip) Four (turn.at + SECOND * turn.site.reboot) (stood turn may_stand terms)) refl refl
+    gated (λ (step : Step4). is_bound step.state ≡ false) (is_due (expiry terms) turn.at || nat_eq turn.site.times.reboot 0) (to_init turn)
+    (rebooting turn (new_exchange turn terms.net.ip) Four (turn.at + SECOND * turn.site.times.reboot) (stood turn may_stand terms)) refl refl
 
 module _ (site : Site) (clean : Type 0) (at salt : ℕ) (early : at < 10 ^ 15) (bytes : List ℕ) (offers : List Offer) (past : List Entry) where
   abbrev Spelled : List Said → Type 0
@@ -618,8 +618,8 @@ rests_sane b within up = record {
 begins_quiet : (turn : Turn4) (may_stand : Bool) (kept : Option Terms4) → (begins turn may_stand kept).news ≡ news.Nothing
 begins_quiet turn may_stand None = refl
 begins_quiet turn may_stand (Some terms) =
-    gated (λ (step : Step4). step.news ≡ news.Nothing) (is_due (expiry terms) turn.at || nat_eq turn.site.reboot 0) (to_init turn)
-    (rebooting turn (new_exchange turn terms.net.ip) Four (turn.at + SECOND * turn.site.reboot) (stood turn may_stand terms)) refl refl
+    gated (λ (step : Step4). step.news ≡ news.Nothing) (is_due (expiry terms) turn.at || nat_eq turn.site.times.reboot 0) (to_init turn)
+    (rebooting turn (new_exchange turn terms.net.ip) Four (turn.at + SECOND * turn.site.times.reboot) (stood turn may_stand terms)) refl refl
 
 -- after what an opening shows, which is a turn without input
 pub opens_keeps : (own : List Mac) (clean : Type 0) (at salt : ℕ) → at < 10 ^ 15 → (offers : List Offer) (b : Beginning) → IfSome b.kept4 HasText → (up : Bool)

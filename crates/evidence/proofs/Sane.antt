@@ -90,9 +90,9 @@ module _ (P : State → Type 0) (none : P Off) (waiting : (due : ℕ) (waits : W
   pub armed_has : (conf : IfConf) (at : ℕ) (iface : IfIndex) (state : State) → P state → Has (armed conf at (at_state iface state))
   armed_has conf at iface state h =
       gated Has (runs_dhcp4 conf) (armed_for_lease conf at (at_state iface state)) _
-      (gated Has (nat_eq conf.timeout 0) (at_state iface state)
-      (ll_armed (at_state iface state) (at + SECOND * conf.timeout) ForLease (fallback_of (chooses_local conf))) h
-      (ll_armed_has iface state (at + SECOND * conf.timeout) ForLease (fallback_of (chooses_local conf)) h))
+      (gated Has (nat_eq conf.times.timeout 0) (at_state iface state)
+      (ll_armed (at_state iface state) (at + SECOND * conf.times.timeout) ForLease (fallback_of (chooses_local conf))) h
+      (ll_armed_has iface state (at + SECOND * conf.times.timeout) ForLease (fallback_of (chooses_local conf)) h))
       (gated Has (chooses_local conf) (ll_armed (at_state iface state) at ForNothing Choose) (at_state iface state)
       (ll_armed_has iface state at ForNothing Choose h) h)
 

@@ -31,7 +31,7 @@ use Rattle.lease_evidence.specs.HeldLeases.{configured_rows}
 use Rattle.lease_evidence.proofs.Beginnings.{begins_with_static_rows}
 use Rattle.evidence.specs.StaticBasis.{StaticBasis}
 use Rattle.net_types.specs.declared.address.Net6.{Net6}
-use Rattle.v6_client.specs.declared.settings.IaAsk.{IaAsk}
+use Rattle.v6_client.specs.declared.setup.IaAsk.{IaAsk}
 use Rattle.v6_frames.specs.Heard.{HeardMessage6}
 use Rattle.world.specs.declared.wakes.Event.{Event}
 use Rattle.world.specs.declared.wakes.Event.TheVariants.{Frame, Quiet}
@@ -57,7 +57,7 @@ use Rattle.evidence.proofs.Rows.{Giver, wanted_giver, in_either, of_static, of_s
 -- ---- without `persistent`
 
 module _ (managed : List Managed) (specs : List IfSpec) (opening : OpeningMet) (is : IsOpening managed specs opening)
-    (plain : AllByRecursion (λ (m : Managed). m.conf.persistent ≡ false) managed) where
+    (plain : AllByRecursion (λ (m : Managed). m.conf.flags.persistent ≡ false) managed) where
   record Starts (iface : Iface) : Type 0 where
     among : Contains managed iface.managed
     rows : iface_rows iface ≡ configured_rows iface.managed (is_up opening.begin.up iface.managed.spec.index.number)
@@ -65,14 +65,14 @@ module _ (managed : List Managed) (specs : List IfSpec) (opening : OpeningMet) (
   abbrev begun : Beginning → Iface
   begun b = (opened opening.begin.up (moment_of opening.begin.at) opening.begin.salt b).iface
 
-  one_starts : (b : Beginning) → b.managed.conf.persistent ≡ false
+  one_starts : (b : Beginning) → b.managed.conf.flags.persistent ≡ false
       → iface_rows (begun b) ≡ configured_rows (begun b).managed (is_up opening.begin.up (begun b).managed.spec.index.number)
   one_starts b off =
       begins_with_static_rows b (record { up = opening.begin.up; at = moment_of opening.begin.at; salt = opening.begin.salt; offers = [] }) off
       ∙ ap (λ (m : Managed). configured_rows m (is_up opening.begin.up m.spec.index.number))
       (sym (opened_is_same opening.begin.up (moment_of opening.begin.at) opening.begin.salt b).managed)
 
-  each_starts : (beginnings : List Beginning) → AllByRecursion (λ (b : Beginning). b.managed.conf.persistent ≡ false) beginnings
+  each_starts : (beginnings : List Beginning) → AllByRecursion (λ (b : Beginning). b.managed.conf.flags.persistent ≡ false) beginnings
       → AllByRecursion (λ (iface : Iface). iface_rows iface ≡ configured_rows iface.managed (is_up opening.begin.up iface.managed.spec.index.number))
       (map (λ (step : IfaceStep). step.iface) (map (opened opening.begin.up (moment_of opening.begin.at) opening.begin.salt) beginnings))
   each_starts [] off = tt
@@ -82,10 +82,10 @@ module _ (managed : List Managed) (specs : List IfSpec) (opening : OpeningMet) (
   read = opening_shows managed specs opening.begin opening.calls opening.life is
 
   -- so of each interface as it begins
-  each_plain : AllByRecursion (λ (b : Beginning). b.managed.conf.persistent ≡ false) (beginnings_of managed read.files)
+  each_plain : AllByRecursion (λ (b : Beginning). b.managed.conf.flags.persistent ≡ false) (beginnings_of managed read.files)
   each_plain =
-      all_mapped (λ (m : Managed). m.conf.persistent ≡ false) (λ (b : Beginning). b.managed) (beginnings_of managed read.files)
-      (subst (λ (ms : List Managed). AllByRecursion (λ (m : Managed). m.conf.persistent ≡ false) ms)
+      all_mapped (λ (m : Managed). m.conf.flags.persistent ≡ false) (λ (b : Beginning). b.managed) (beginnings_of managed read.files)
+      (subst (λ (ms : List Managed). AllByRecursion (λ (m : Managed). m.conf.flags.persistent ≡ false) ms)
       (sym (beginnings_managed (duid_with managed read.files) read.files.ifaces ∙ files_are_loaded managed read.reads read.files read.makes)) plain)
 
   all_start : AllByRecursion Starts opening.life.client.ifaces

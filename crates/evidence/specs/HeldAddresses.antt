@@ -25,7 +25,7 @@ use Rattle.evidence_words.specs.Entries.{Entry}
 use Rattle.evidence_words.specs.Inputs.{Site}
 use Rattle.lease6_evidence.specs.KeptBasis6.{KeptBasis6}
 use Rattle.turn_model.specs.FilesInLife.{AreNamedApart}
-use Rattle.v6_client.specs.declared.settings.IaAsk.{IaAsk}
+use Rattle.v6_client.specs.declared.setup.IaAsk.{IaAsk}
 use Rattle.net_types.specs.declared.address.Net6.{Net6}
 
 -- what the turns of a life meet
@@ -73,7 +73,7 @@ WantsStaticAlone managed specs opening = (index : IfIndex) (net : Net)
 abbrev pub PlainOpeningStarts : Type 0
 PlainOpeningStarts = (managed : List Managed) (specs : List IfSpec) (opening : OpeningMet)
     → IsOpening managed specs opening
-    → AllByRecursion (λ (m : Managed). m.conf.persistent ≡ false) managed → WantsStaticAlone managed specs opening
+    → AllByRecursion (λ (m : Managed). m.conf.flags.persistent ≡ false) managed → WantsStaticAlone managed specs opening
 
 -- so after an opening in which no host call failed
 abbrev pub OpeningRests : Type 0

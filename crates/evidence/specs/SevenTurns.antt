@@ -9,6 +9,7 @@ use Rattle.frame_link.specs.Packets.{probe_text, announcement_text}
 use Rattle.world.specs.declared.wakes.Event.{Event}
 use Rattle.world.specs.declared.wakes.Event.TheVariants.{Frame, Quiet}
 use Rattle.settings.specs.declared.interfaces.Managed.{Managed}
+use Rattle.settings.specs.Flags.{no_flags}
 use Rattle.world.specs.LinkCalls.{Given}
 use Rattle.world.specs.StoreCalls.{store_holding}
 use Rattle.world.specs.StoreFails.{never_fails}
@@ -32,7 +33,7 @@ chosen_net = V4 (local_net chosen)
 
 -- eth0, with `nodhcp`
 abbrev pub interface : Managed
-interface = record plain_eth0 { conf = record plain_eth0.conf { nodhcp = true } }
+interface = record plain_eth0 { conf = record plain_eth0.conf { flags = record no_flags { nodhcp = true } } }
 
 abbrev given : ℕ → Event → List ℕ → Given
 given at event bytes = record { wake = record { at = at; salt = 0; event = event }; bytes = bytes }

@@ -33,7 +33,7 @@ use Rattle.v6_frames.specs.Heard.{HeardMessage6, heard6_in, is_for, is_to, messa
 use Rattle.lease6_text.specs.declared.lease.TheConstants.{ITEM_LIMIT}
 use Rattle.v6_client.proofs.SaidFits.{cons_all, take_all}
 use Rattle.v6_client.specs.Reading.{cleared, ia_for, is_for as is_ia_for, is_read, is_readable, read_item, read_items, saids_of}
-use Rattle.v6_client.specs.declared.settings.IaAsk.{IaAsk}
+use Rattle.v6_client.specs.declared.setup.IaAsk.{IaAsk}
 
 -- ---- options
 

@@ -124,7 +124,7 @@ arms_in_range : (local : LinkLocal) (due : ℕ) (waits : Waits) (fallback : Fall
 arms_in_range local due waits fallback range = (step_in [] local.iface local.state (Arm 0 due waits fallback) range).chosen
 
 for_lease : (conf : IfConf) (at : ℕ) (local : LinkLocal) → InRange local → InRange (armed_for_lease conf at local)
-for_lease conf at local range = gated InRange (eqb conf.timeout 0) local _ range (arms_in_range local _ _ _ range)
+for_lease conf at local range = gated InRange (eqb conf.times.timeout 0) local _ range (arms_in_range local _ _ _ range)
 
 pub armed_in_range : (conf : IfConf) (at : ℕ) (local : LinkLocal) → InRange local → InRange (armed conf at local)
 armed_in_range conf at local range =

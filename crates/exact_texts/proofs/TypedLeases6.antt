@@ -22,7 +22,7 @@ use Rattle.v6_client.specs.Items.{asked_at, ia_with, ias_of, is_nonempty, pruned
 use Rattle.v6_client.specs.Moves.{kept_left, lease_with, thinned_lease}
 use Rattle.v6_client.specs.Reading.{ia_for, is_unbound, saids_of}
 use Rattle.v6_client.specs.Taking.{IaTaking, Meeting, carried, ia_granted, ias_granted, is_carried, item_from, place_of, placed, taken_by, taken_out, takes_item}
-use Rattle.v6_client.specs.declared.settings.IaAsk.{IaAsk}
+use Rattle.v6_client.specs.declared.setup.IaAsk.{IaAsk}
 use Rattle.v6_client.specs.declared.states.Cause6.{Cause6}
 use Rattle.v6_client.specs.declared.states.Cause6.TheVariants.{Lapse}
 use Rattle.v6_client.specs.declared.states.Parting6.{Parting6}

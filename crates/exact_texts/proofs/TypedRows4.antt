@@ -150,7 +150,7 @@ module _ (turn : Turn4) where
 
   granted_typed : (xid : ℕ) (terms : Terms4) (origin : Origin4) (stands : Option Terms4) → TypedTerms terms → TypedStep (granted turn xid terms origin stands)
   granted_typed xid terms origin stands typed =
-      gated TypedStep turn.site.noarp _ _ (binds_typed xid terms (bound_news origin) None typed) (record { state = typed; keep = tt })
+      gated TypedStep turn.site.flags.noarp _ _ (binds_typed xid terms (bound_news origin) None typed) (record { state = typed; keep = tt })
 
   answered_typed : (xid : ℕ) (origin : Origin4) (stands : Option Terms4) (state : State4) (answer : Answer4) → TypedState state → TypedAnswer answer
       → TypedStep (answered turn xid origin stands state answer)
@@ -205,7 +205,7 @@ module _ (turn : Turn4) where
   begins_typed : (may_stand : Bool) (kept : Option Terms4) → TypedStep (begins turn may_stand kept)
   begins_typed may_stand None = record { state = tt; keep = tt }
   begins_typed may_stand (Some terms) =
-      gated Spent (is_due (expiry terms) turn.at || eqb turn.site.reboot 0) _ _ (record { state = tt; keep = tt }) (record { state = tt; keep = tt })
+      gated Spent (is_due (expiry terms) turn.at || eqb turn.site.times.reboot 0) _ _ (record { state = tt; keep = tt }) (record { state = tt; keep = tt })
 
   pub begin_typed : (may_stand : Bool) (kept : Option Terms4) (state : State4) → TypedState state → TypedStep (begin_row turn may_stand kept state)
   begin_typed may_stand kept Off typed = begins_typed may_stand kept

@@ -7,7 +7,7 @@ use Rattle.lease6_text.specs.Bounds.{FitsLease6, HasText6}
 use Rattle.lease6_text.specs.Leases.{Lease6Content}
 use Rattle.settings.specs.declared.dhcp6_conf.IaConf.{IaConf}
 use Rattle.settings.specs.Dhcp6Settings.{Dhcp6Settings, FitsDhcp6}
-use Rattle.v6_client.specs.declared.settings.IaAsk.{IaAsk}
+use Rattle.v6_client.specs.declared.setup.IaAsk.{IaAsk}
 use Rattle.v6_client.specs.Bounds.{FitsAsks, ask_key}
 use Rattle.client_model.specs.ClientSettings6.{ask_for}
 

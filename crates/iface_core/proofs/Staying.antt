@@ -73,9 +73,9 @@ arm_in local due waits fallback h = (step_in [] local.iface local.state (Arm due
 armed_in : (conf : IfConf) (at : ℕ) (local : LinkLocal) → InState local.state → InState (armed conf at local).state
 armed_in conf at local h =
     gated (λ (l : LinkLocal). InState l.state) (runs_dhcp4 conf) (armed_for_lease conf at local) _
-    (gated (λ (l : LinkLocal). InState l.state) (nat_eq conf.timeout 0) local
-    (ll_armed local (at + SECOND * conf.timeout) ForLease (fallback_of (chooses_local conf))) h
-    (arm_in local (at + SECOND * conf.timeout) ForLease (fallback_of (chooses_local conf)) h))
+    (gated (λ (l : LinkLocal). InState l.state) (nat_eq conf.times.timeout 0) local
+    (ll_armed local (at + SECOND * conf.times.timeout) ForLease (fallback_of (chooses_local conf))) h
+    (arm_in local (at + SECOND * conf.times.timeout) ForLease (fallback_of (chooses_local conf)) h))
     (gated (λ (l : LinkLocal). InState l.state) (chooses_local conf) (ll_armed local at ForNothing Choose) local (arm_in local at ForNothing Choose h) h)
 
 followed_in : (conf : IfConf) (at : ℕ) (held : Bool) (said : News4) (local : LinkLocal) → InState local.state → InState (followed conf at held said local).state

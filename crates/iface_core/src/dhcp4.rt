@@ -39,7 +39,7 @@ use v6_options::Duid;
 pub fn runs_dhcp4(conf: &IfConf) -> bool
     ensures { result ≡ runs_dhcp4 conf.now }
 {
-    !conf.nodhcp && !conf.ipv6only && conf.address.is_none()
+    !conf.flags.nodhcp && !conf.flags.ipv6only && conf.address.is_none()
 }
 
 /// The identifier that is the hardware address (RFC 2132, section 9.14).
@@ -95,15 +95,12 @@ pub fn settings_of(alloc: Global, managed: &Managed, duid: &Duid) -> Result<Set4
     let conf = &managed.conf;
     Ok(Set4 {
         iface: managed.spec,
+        flags: conf.flags,
+        times: conf.times,
         ask: ask_of(alloc, managed, duid)?,
-        nodelay: conf.nodelay,
-        noarp: conf.noarp,
-        broadcast: conf.broadcast,
-        reboot: conf.reboot,
         required: conf.dhcp4.required.to_vec(alloc)?,
         refused: conf.dhcp4.refused.to_vec(alloc)?,
         blacklist: conf.dhcp4.blacklist.to_vec(alloc)?,
-        persistent: conf.persistent,
     })
 }
 

@@ -33,7 +33,7 @@ use v6_options::Duid;
 pub fn runs_dhcp6(conf: &IfConf) -> bool
     ensures { result ≡ runs_dhcp6 conf.now }
 {
-    !conf.dhcp6.ias.is_empty() && !conf.nodhcp6 && !conf.ipv4only
+    !conf.dhcp6.ias.is_empty() && !conf.flags.nodhcp6 && !conf.flags.ipv4only
 }
 
 /// The IAs that the client asks for.
@@ -55,11 +55,10 @@ fn settings6_of(alloc: Global, managed: &Managed, duid: Duid) -> Result<Set6, Al
     let conf = &managed.conf;
     Ok(Set6 {
         iface: managed.spec,
+        flags: conf.flags,
         duid,
         ias: asks_of(alloc, &conf.dhcp6.ias)?,
-        nodelay: conf.nodelay,
         rapid: conf.dhcp6.rapid,
-        persistent: conf.persistent,
     })
 }
 

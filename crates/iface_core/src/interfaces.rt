@@ -224,7 +224,7 @@ pub fn rebind(iface: &mut Iface, at: u64, salt: u64, outs: &mut Outs) -> Result<
 fn told_at_stop(conf: &IfConf) -> Tell
     ensures { result ≡ run.told_at_stop conf.now }
 {
-    if conf.release {
+    if conf.flags.release {
         Tell::Server
     } else {
         Tell::Nobody

@@ -25,7 +25,7 @@ const SECOND: u64 = 1000;
 fn chooses_local(conf: &IfConf) -> bool
     ensures { result ≡ run.chooses_local conf.now }
 {
-    !conf.noipv4ll && !conf.ipv6only && conf.address.is_none()
+    !conf.flags.noipv4ll && !conf.flags.ipv6only && conf.address.is_none()
 }
 
 /// What follows where no lease comes in time.
@@ -44,8 +44,8 @@ fn arm_for_lease(conf: &IfConf, local: &mut LinkLocal, at: u64)
     requires { IsMoment at }
     ensures { local.new ≡ run.armed_for_lease conf.now at local.old }
 {
-    if conf.timeout != 0 {
-        let due = at + SECOND * u64::from(conf.timeout);
+    if conf.times.timeout != 0 {
+        let due = at + SECOND * u64::from(conf.times.timeout);
         ll_arm(local, due, Waits::ForLease, fallback_of(conf));
     }
 }

@@ -84,8 +84,8 @@ module _ (site : Site) (past : List Entry) (kept : Kept6) (net : Net) (moment : 
 
   no_address : shown.kept6 ≡ None → is_kept_address6 shown net moment past ≡ false
   no_address none =
-      ap (λ (lease : Option Lease6Content). shown.managed.conf.persistent && gives_address6 net moment (kept6_in shown past) lease) none
-      ∙ no_part shown.managed.conf.persistent _ (none_given net moment (kept6_in shown past))
+      ap (λ (lease : Option Lease6Content). shown.managed.conf.flags.persistent && gives_address6 net moment (kept6_in shown past) lease) none
+      ∙ no_part shown.managed.conf.flags.persistent _ (none_given net moment (kept6_in shown past))
 
   pub gives_so : TellsKept6 kept shown past → (Tells6 kept shown past → result ≡ is_kept_address6 shown net moment past)
       → (is_some site.kept6 && result) ≡ is_kept_address6 shown net moment past
@@ -94,8 +94,8 @@ module _ (site : Site) (past : List Entry) (kept : Kept6) (net : Net) (moment : 
 
   no_share : (index : IfIndex) → shown.kept6 ≡ None → is_kept_share shown index net moment past ≡ false
   no_share index none =
-      ap (λ (lease : Option Lease6Content). shown.managed.conf.persistent && lease_shares shown.managed index net moment (kept6_in shown past) lease) none
-      ∙ no_part shown.managed.conf.persistent false refl
+      ap (λ (lease : Option Lease6Content). shown.managed.conf.flags.persistent && lease_shares shown.managed index net moment (kept6_in shown past) lease) none
+      ∙ no_part shown.managed.conf.flags.persistent false refl
 
   pub shares_so : (index : IfIndex) → TellsKept6 kept shown past → (Tells6 kept shown past → result ≡ is_kept_share shown index net moment past)
       → (is_some site.kept6 && result) ≡ is_kept_share shown index net moment past

@@ -17,7 +17,7 @@ use Rattle.v6_options.specs.Layout.{address_fields_len}
 use Rattle.v6_options.specs.OptionArea.{Instance, instances_in}
 use Rattle.v6_options.specs.Statuses.{status_in, success}
 use Rattle.v6_message.specs.Replies.{Content6}
-use Rattle.v6_client.specs.declared.settings.IaAsk.{IaAsk}
+use Rattle.v6_client.specs.declared.setup.IaAsk.{IaAsk}
 use Rattle.v6_client_laws.proofs.FirstItems.{none_in}
 use Rattle.v6_client_laws.proofs.Given.{met}
 use Rattle.v6_client_laws.specs.GivenItems.{IsHeldAs}

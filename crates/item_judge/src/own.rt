@@ -5,7 +5,7 @@ ghost use Rattle.std.specs.Option.{option_map};
 ghost use Rattle.v6_options.specs.IaViews.{ia_shown, ias_left};
 ghost use Rattle.v6_message.specs.ReadBack.{asked_in};
 ghost use Rattle.v6_client.specs.Asking.{hinted};
-ghost use Rattle.v6_client.specs.declared.settings.IaAsk.{IaAsk};
+ghost use Rattle.v6_client.specs.declared.setup.IaAsk.{IaAsk};
 ghost use Rattle.own_frames6.specs.Shown.{said_shown, sent_shown};
 ghost use Rattle.audit_words.specs.Shown.{offer_shown, site_shown};
 ghost use Rattle.lease6_evidence.specs.Exchanges6.{is_own, message6_of};

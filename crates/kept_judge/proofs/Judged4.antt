@@ -77,7 +77,7 @@ module _ (site : Site) (past : List Entry) where
 
   module _ (net : Net) (now : ℕ) where
     abbrev persistent : Bool
-    persistent = site.managed.conf.persistent
+    persistent = site.managed.conf.flags.persistent
 
     module _ (lease : LeaseContent) where
       abbrev first_two : Bool

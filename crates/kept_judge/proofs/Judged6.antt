@@ -12,7 +12,7 @@ use Rattle.v6_options.specs.declared.ia.IaKind.TheVariants.{Na, Pd}
 use Rattle.lease6_text.specs.declared.lease.Item6.{Item6}
 use Rattle.lease6_text.specs.Leases.{IaLeaseContent, Lease6Content}
 use Rattle.lease6_text.specs.LineParts.{is_ia, is_same_kind}
-use Rattle.v6_client.specs.declared.settings.IaAsk.{IaAsk}
+use Rattle.v6_client.specs.declared.setup.IaAsk.{IaAsk}
 use Rattle.v6_client.specs.declared.times.TheConstants.{RESTART_TIME}
 use Rattle.v6_client.specs.Items.{is_live}
 use Rattle.v6_client_laws.proofs.Given.{met}
@@ -151,7 +151,7 @@ module _ (site : Site) (now : ℕ) (past : List Entry) where
       ap (is_asking6 now) again.is ∙ is_before now (again.since + RESTART_TIME) again.soon
 
   abbrev persistent : Bool
-  persistent = site.managed.conf.persistent
+  persistent = site.managed.conf.flags.persistent
 
   -- ---- an item of an IA
 

@@ -5,7 +5,7 @@ use Rattle.net_types.specs.declared.address.Net.{Net}
 use Rattle.net_types.specs.declared.address.Net6.{Net6}
 use Rattle.v6_frames.specs.Spelled.{Sent6}
 use Rattle.lease6_text.specs.LineParts.{is_ia}
-use Rattle.v6_client.specs.declared.settings.IaAsk.{IaAsk}
+use Rattle.v6_client.specs.declared.setup.IaAsk.{IaAsk}
 use Rattle.evidence_words.specs.Entries.{Entry}
 use Rattle.evidence_words.specs.Inputs.{Site, carrier_after, index_at}
 use Rattle.lease6_evidence.specs.Exchanges6.{messages6_at}
@@ -77,11 +77,11 @@ rests_tells6 site e past index before after over i is told =
 
 -- what may be held, by what is kept
 pub item_so : (site : Site) (ask : IaAsk) (net : Net6) (now : ℕ) (past : List Entry) (kept : Kept6) → Tells6 kept site past
-    → (site.managed.conf.persistent && gives6 (is_ia (ask.kind, ask.iaid)) net now kept site.kept6) ≡ is_kept6 site ask net now past
+    → (site.managed.conf.flags.persistent && gives6 (is_ia (ask.kind, ask.iaid)) net now kept site.kept6) ≡ is_kept6 site ask net now past
 item_so site ask net now past kept t =
-    ap (λ (k : Kept6). site.managed.conf.persistent && gives6 (is_ia (ask.kind, ask.iaid)) net now k site.kept6) t
+    ap (λ (k : Kept6). site.managed.conf.flags.persistent && gives6 (is_ia (ask.kind, ask.iaid)) net now k site.kept6) t
 
 pub address_so : (site : Site) (net : Net) (now : ℕ) (past : List Entry) (kept : Kept6) → Tells6 kept site past
-    → (site.managed.conf.persistent && gives_address6 net now kept site.kept6) ≡ is_kept_address6 site net now past
+    → (site.managed.conf.flags.persistent && gives_address6 net now kept site.kept6) ≡ is_kept_address6 site net now past
 address_so site net now past kept t =
-    ap (λ (k : Kept6). site.managed.conf.persistent && gives_address6 net now k site.kept6) t
+    ap (λ (k : Kept6). site.managed.conf.flags.persistent && gives_address6 net now k site.kept6) t

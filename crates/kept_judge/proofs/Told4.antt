@@ -91,14 +91,14 @@ module _ (site : Site) where
       (is ∙ ap (λ (n : ℕ). kept_over (carrier_after n e.event before.up)) i) site.kept4 told
 
   -- what may be held
-  pub none_held : (net : Net) (now : ℕ) (past : List Entry) (persistent : Bool) → persistent ≡ site.managed.conf.persistent → site.kept4 ≡ None
+  pub none_held : (net : Net) (now : ℕ) (past : List Entry) (persistent : Bool) → persistent ≡ site.managed.conf.flags.persistent → site.kept4 ≡ None
       → (persistent && false) ≡ is_kept4 site net now past
   none_held net now past persistent p is =
       ap (λ (b : Bool). b && false) p
-      ∙ ap (λ (o : Option LeaseContent). site.managed.conf.persistent && some_gives4 net now o (λ address. kept4_in site address past)) (sym is)
+      ∙ ap (λ (o : Option LeaseContent). site.managed.conf.flags.persistent && some_gives4 net now o (λ address. kept4_in site address past)) (sym is)
 
   pub one_held : (net : Net) (now : ℕ) (past : List Entry) (lease : LeaseContent) (kept : Kept4) → site.kept4 ≡ Some lease → Tells4 kept site past
-      → (site.managed.conf.persistent && gives4 net now lease kept) ≡ is_kept4 site net now past
+      → (site.managed.conf.flags.persistent && gives4 net now lease kept) ≡ is_kept4 site net now past
   one_held net now past lease kept is t =
-      ap (λ (k : Kept4). site.managed.conf.persistent && gives4 net now lease k) (one_told lease kept past is t)
-      ∙ ap (λ (o : Option LeaseContent). site.managed.conf.persistent && some_gives4 net now o (λ address. kept4_in site address past)) (sym is)
+      ap (λ (k : Kept4). site.managed.conf.flags.persistent && gives4 net now lease k) (one_told lease kept past is t)
+      ∙ ap (λ (o : Option LeaseContent). site.managed.conf.flags.persistent && some_gives4 net now o (λ address. kept4_in site address past)) (sym is)

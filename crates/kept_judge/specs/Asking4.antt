@@ -135,4 +135,4 @@ some_gives4 net now (Some lease) kept = gives4 net now lease (kept lease.net.ip)
 -- whether an address may be held as that of the kept lease
 abbrev pub is_kept4 : Site → Net → (now : ℕ) → List Entry → Bool
 is_kept4 site net now past =
-    site.managed.conf.persistent && some_gives4 net now site.kept4 (λ address. kept4_in site address past)
+    site.managed.conf.flags.persistent && some_gives4 net now site.kept4 (λ address. kept4_in site address past)

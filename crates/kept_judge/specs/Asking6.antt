@@ -14,7 +14,7 @@ use Rattle.v6_frames.specs.Spelled.{Sent6}
 use Rattle.lease6_text.specs.declared.lease.Item6.{Item6}
 use Rattle.lease6_text.specs.Leases.{IaLeaseContent, Lease6Content}
 use Rattle.lease6_text.specs.LineParts.{is_ia, is_same_kind}
-use Rattle.v6_client.specs.declared.settings.IaAsk.{IaAsk}
+use Rattle.v6_client.specs.declared.setup.IaAsk.{IaAsk}
 use Rattle.v6_client.specs.declared.times.TheConstants.{RESTART_TIME}
 use Rattle.v6_client.specs.Items.{is_live}
 use Rattle.v6_client.specs.Reading.{serves}
@@ -136,7 +136,7 @@ gives6 test net now kept (Some lease) =
 -- whether an item of an IA may be held as one of the kept lease
 abbrev pub is_kept6 : Site → IaAsk → Net6 → (now : ℕ) → List Entry → Bool
 is_kept6 site ask net now past =
-    site.managed.conf.persistent && gives6 (is_ia (ask.kind, ask.iaid)) net now (kept6_in site past) site.kept6
+    site.managed.conf.flags.persistent && gives6 (is_ia (ask.kind, ask.iaid)) net now (kept6_in site past) site.kept6
 
 abbrev pub is_na : IaLeaseContent → Bool
 is_na ia = is_same_kind ia.kind Na
@@ -148,4 +148,4 @@ gives_address6 (V6 net) now kept lease = gives6 is_na net now kept lease
 -- whether an address may be held as one of the kept lease
 abbrev pub is_kept_address6 : Site → Net → (now : ℕ) → List Entry → Bool
 is_kept_address6 site net now past =
-    site.managed.conf.persistent && gives_address6 net now (kept6_in site past) site.kept6
+    site.managed.conf.flags.persistent && gives_address6 net now (kept6_in site past) site.kept6

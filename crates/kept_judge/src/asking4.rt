@@ -238,7 +238,7 @@ impl Kept4 {
             → Tells4 self.now (site_shown site.now) past
             → result ≡ is_kept4 (site_shown site.now) net now past }
     {
-        site.managed.conf.persistent
+        site.managed.conf.flags.persistent
             && match &site.kept4 {
                 None => false,
                 Some(lease) => self.gives_of(lease, net, now),

@@ -118,7 +118,7 @@ impl Kept6 {
             → Tells6 self.now (site_shown site.now) past
             → result ≡ is_kept6 (site_shown site.now) ask net now past }
     {
-        site.managed.conf.persistent && self.gives_item(&site.kept6, ask, net, now)
+        site.managed.conf.flags.persistent && self.gives_item(&site.kept6, ask, net, now)
     }
 
     /// Whether an address may be held as one of the kept lease, at a moment in milliseconds since 1970.
@@ -128,6 +128,6 @@ impl Kept6 {
             → Tells6 self.now (site_shown site.now) past
             → result ≡ is_kept_address6 (site_shown site.now) net now past }
     {
-        site.managed.conf.persistent && self.gives_net(&site.kept6, net, now)
+        site.managed.conf.flags.persistent && self.gives_net(&site.kept6, net, now)
     }
 }

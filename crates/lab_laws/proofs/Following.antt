@@ -244,7 +244,7 @@ module _ (turn : Turn4) (past : List Said4) (drawn : Drawn turn.last past) where
   granting : (xid : ℕ) (terms : Terms4) (origin : Origin4) (stands : Option Terms4) → LastIs Request xid past
       → After past (granted turn xid terms origin stands)
   granting xid terms origin stands last =
-      gated (After past) turn.site.noarp _ _ (record { drawn = drawn; on = last; well = tt }) (record { drawn = drawn; on = last; well = tt })
+      gated (After past) turn.site.flags.noarp _ _ (record { drawn = drawn; on = last; well = tt }) (record { drawn = drawn; on = last; well = tt })
 
   answering : (xid : ℕ) (origin : Origin4) (stands : Option Terms4) (state : State4) (said : Answer4) → LastIs Request xid past → On state past
       → After past (answered turn xid origin stands state said)
@@ -291,8 +291,8 @@ module _ (turn : Turn4) (past : List Said4) (drawn : Drawn turn.last past) where
   enters : (may_stand : Bool) (kept : Option Terms4) → After past (entered turn may_stand kept)
   enters may_stand None = inits
   enters may_stand (Some terms) =
-      gated (After past) (is_due (expiry terms) turn.at || (turn.site.reboot == 0)) _ _ inits
-      (reboots terms.net.ip (turn.at + SECOND * turn.site.reboot) (stood turn may_stand terms))
+      gated (After past) (is_due (expiry terms) turn.at || (turn.site.times.reboot == 0)) _ _ inits
+      (reboots terms.net.ip (turn.at + SECOND * turn.site.times.reboot) (stood turn may_stand terms))
 
   begun : (may_stand : Bool) (kept : Option Terms4) → After past (begins turn may_stand kept)
   begun may_stand kept =

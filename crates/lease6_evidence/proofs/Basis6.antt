@@ -17,7 +17,7 @@ use Rattle.lease6_text.specs.Bounds.{FitsIas, ia_key}
 use Rattle.lease6_text.specs.Leases.{IaLeaseContent, Lease6Content}
 use Rattle.lease6_text.specs.LineParts.{is_ia, is_same_kind}
 use Rattle.lease6_text.proofs.Apart.{Apart, apart_from}
-use Rattle.v6_client.specs.declared.settings.IaAsk.{IaAsk}
+use Rattle.v6_client.specs.declared.setup.IaAsk.{IaAsk}
 use Rattle.v6_client.specs.declared.states.Cause6.{Cause6}
 use Rattle.v6_client.specs.declared.states.Scope6.TheVariants as scope
 use Rattle.v6_client.specs.declared.times.TheConstants.{FOREVER, SECOND}

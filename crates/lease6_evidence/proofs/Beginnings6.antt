@@ -22,7 +22,7 @@ use Rattle.lease6_evidence.proofs.Turns6.{begins_run}
 
 -- `persistent` isn't in force, or the kept lease doesn't tell where it is from
 abbrev IsPlain : Beginning → Type 0
-IsPlain beginning = (beginning.managed.conf.persistent ≡ false) ⊎ IfSome beginning.kept6 (λ lease. lease.origin ≡ None)
+IsPlain beginning = (beginning.managed.conf.flags.persistent ≡ false) ⊎ IfSome beginning.kept6 (λ lease. lease.origin ≡ None)
 
 untold : (origin : Option Origin) → origin ≡ None → is_some origin ≡ true → ⊥
 untold None none told = cc
@@ -32,9 +32,9 @@ without_origin : (kept : Option Lease6Content) → IfSome kept (λ lease. lease.
 without_origin None none has = absurd cc
 without_origin (Some lease) none has = untold lease.origin none has
 
-stands_not : (beginning : Beginning) → IsPlain beginning → beginning.managed.conf.persistent ≡ true
+stands_not : (beginning : Beginning) → IsPlain beginning → beginning.managed.conf.flags.persistent ≡ true
     → has_origin beginning.kept6 ≡ true → ⊥
-stands_not beginning (inl off) on has = both_ways beginning.managed.conf.persistent off on
+stands_not beginning (inl off) on has = both_ways beginning.managed.conf.flags.persistent off on
 stands_not beginning (inr none) on has = without_origin beginning.kept6 none has
 
 module _ (at salt : ℕ) (beginning : Beginning) (plain : IsPlain beginning) where
@@ -45,8 +45,8 @@ module _ (at salt : ℕ) (beginning : Beginning) (plain : IsPlain beginning) whe
       → held_of (stepped (begins (turn_of at salt made) stands (parting_begun at made)) None
       (if stands then record made { kept = pruned_kept at made.settings.asks made.kept } else made)).client ≡ None
   by_stands true is =
-      let one = and_parts (beginning.managed.conf.persistent && has_origin beginning.kept6) (parting_begun at made).stays is in
-      let two = and_parts beginning.managed.conf.persistent (has_origin beginning.kept6) one.0 in
+      let one = and_parts (beginning.managed.conf.flags.persistent && has_origin beginning.kept6) (parting_begun at made).stays is in
+      let two = and_parts beginning.managed.conf.flags.persistent (has_origin beginning.kept6) one.0 in
       absurd (stands_not beginning plain two.0 two.1)
   by_stands false is =
       gated (λ (step : Step6). held_of (stepped (record step { spends = true }) None made).client ≡ None)

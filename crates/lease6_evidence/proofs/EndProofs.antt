@@ -13,7 +13,7 @@ use Rattle.v6_options.specs.Ias.{IaContent, ias_in}
 use Rattle.v6_options.specs.Statuses.{success}
 use Rattle.v6_message.specs.Replies.{Content6}
 use Rattle.v6_frames.specs.Heard.{HeardMessage6}
-use Rattle.v6_client.specs.declared.settings.IaAsk.{IaAsk}
+use Rattle.v6_client.specs.declared.setup.IaAsk.{IaAsk}
 use Rattle.v6_client.specs.Reading.{are_ordered, front_items, is_unbound, no_binding, read_items, saids_of}
 use Rattle.v6_client_laws.proofs.Given.{bindings_are_known, items_are_given}
 use Rattle.world.specs.declared.wakes.Event.{Event}

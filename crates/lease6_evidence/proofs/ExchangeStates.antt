@@ -12,7 +12,7 @@ use Rattle.lease6_text.specs.Leases.{Lease6Content}
 use Rattle.v6_client.specs.Clients.{ClientContent, PleaContent}
 use Rattle.v6_client.specs.Items.{pruned_ias}
 use Rattle.v6_client.specs.Moves.{lease_with}
-use Rattle.v6_client.specs.declared.settings.IaAsk.{IaAsk}
+use Rattle.v6_client.specs.declared.setup.IaAsk.{IaAsk}
 use Rattle.v6_client.specs.Saying.{lease_server, plea_server}
 use Rattle.client_model.specs.ClientSettings6.{settings6_of}
 use Rattle.evidence_words.specs.Entries.{Entry}

@@ -24,7 +24,7 @@ use Rattle.lease6_text.specs.Leases.{IaLeaseContent, Lease6Content}
 use Rattle.lease6_text.specs.LineParts.{has_net, is_ia, is_same_kind}
 use Rattle.settings.specs.declared.dhcp6_conf.IaConf.{IaConf}
 use Rattle.settings.specs.Dhcp6Settings.{FitsIaConf}
-use Rattle.v6_client.specs.declared.settings.IaAsk.{IaAsk}
+use Rattle.v6_client.specs.declared.setup.IaAsk.{IaAsk}
 use Rattle.v6_client.specs.declared.states.Scope6.{Scope6}
 use Rattle.v6_client.specs.declared.states.Scope6.TheVariants as scope
 use Rattle.v6_client.specs.Asking.{asked_with, hinted, ia_asked, ia_declined, ia_lapsed, ia_offered, ia_released, ia_solicited, ias_asked, ias_lapsed, ias_offered, is_over_in, named_with, nets_gone, nets_in, nets_lapsed, nets_said}

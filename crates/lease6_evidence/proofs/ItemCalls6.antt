@@ -15,7 +15,7 @@ use Rattle.lease6_text.specs.Bounds.{FitsLease6}
 use Rattle.lease6_text.specs.LineParts.{is_ia, is_same_kind}
 use Rattle.v6_retrans.specs.declared.parameters.TheConstants.{REQUEST, DECLINE}
 use Rattle.v6_client.specs.declared.exchange.Exchange6.{Exchange6}
-use Rattle.v6_client.specs.declared.settings.IaAsk.{IaAsk}
+use Rattle.v6_client.specs.declared.setup.IaAsk.{IaAsk}
 use Rattle.v6_client.specs.declared.states.Dates6.{Dates6}
 use Rattle.lease6_text.specs.Leases.{IaLeaseContent, Lease6Content}
 use Rattle.v6_client.specs.declared.states.Cause6.{Cause6}
@@ -420,7 +420,7 @@ module _ (site : Site) (e : Entry) (past : List Entry) where
         (stepped (begins (turn_of e.moment salt (at_begin Off)) stands (parting_begun e.moment (at_begin Off))) None
         (if stands then record (at_begin Off) { kept = pruned_kept e.moment (asks_at site) kept } else at_begin Off)).client
     when_off was true is =
-        let persistent : Bool = site.managed.conf.persistent in
+        let persistent : Bool = site.managed.conf.flags.persistent in
         let one = and_parts (unspent && persistent && has_origin kept) (parting_begun e.moment (at_begin Off)).stays is in
         let two = and_parts (unspent && persistent) (has_origin kept) one.0 in
         let same : kept ≡ site.kept6 = was (and_parts unspent persistent two.0).0 in

@@ -24,7 +24,7 @@ use Rattle.lease6_evidence.proofs.WantProofs.{at_cut}
 -- ---- the settings and the lease
 
 pub needs_flag : NeedsFlag6
-needs_flag site ask net now past off basis = opposite site.managed.conf.persistent basis.persistent off
+needs_flag site ask net now past off basis = opposite site.managed.conf.flags.persistent basis.persistent off
 
 untold : (origin : Option Origin) → origin ≡ None → is_some origin ≡ true → ⊥
 untold None none told = cc

@@ -11,7 +11,7 @@ use Rattle.v6_frames.specs.Spelled.{Sent6, sent6_in}
 use Rattle.v6_frames.proofs.FramesBack.{spelled_alone}
 use Rattle.lease6_text.specs.LineParts.{is_same_kind}
 use Rattle.settings.specs.declared.interfaces.Managed.{Managed}
-use Rattle.v6_client.specs.declared.settings.IaAsk.{IaAsk}
+use Rattle.v6_client.specs.declared.setup.IaAsk.{IaAsk}
 use Rattle.v6_client.specs.Asking.{hinted, ia_solicited}
 use Rattle.v6_client.proofs.TakenFits.{kind_is}
 use Rattle.evidence_words.specs.Inputs.{Site}

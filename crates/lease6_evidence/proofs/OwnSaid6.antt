@@ -13,7 +13,7 @@ use Rattle.v6_message.specs.Requests.{AskedContent}
 use Rattle.lease6_text.specs.LineParts.{is_same_kind}
 use Rattle.lease6_text.specs.Leases.{IaLeaseContent, Lease6Content}
 use Rattle.settings.specs.declared.interfaces.Managed.{Managed}
-use Rattle.v6_client.specs.declared.settings.IaAsk.{IaAsk}
+use Rattle.v6_client.specs.declared.setup.IaAsk.{IaAsk}
 use Rattle.v6_client.specs.declared.states.Say6.{Say6}
 use Rattle.v6_client.specs.declared.states.Scope6.{Scope6}
 use Rattle.v6_client.specs.declared.states.Scope6.TheVariants as scope

@@ -44,7 +44,7 @@ pub record MayStand (site : Site) (said : Option Sent6) (past : List Entry) (sta
 
 -- one that stands
 pub record Stands (site : Site) (xid end now : ℕ) (said : Option Sent6) (past : List Entry) : Type 0 where
-  pub persistent : site.managed.conf.persistent ≡ true
+  pub persistent : site.managed.conf.flags.persistent ≡ true
   pub told : has_origin site.kept6 ≡ true
   pub up : has_carrier site past ≡ true
   pub stays : Always (StaysOn site) past
@@ -197,7 +197,7 @@ module _ (site : Site) (e : Entry) (past : List Entry) (said : Option Sent6) (st
   }
 
   -- it begins, and stands
-  pub starts : (xid : ℕ) (sent : Sent6) (kept : Option Lease6Content) → site.managed.conf.persistent ≡ true
+  pub starts : (xid : ℕ) (sent : Sent6) (kept : Option Lease6Content) → site.managed.conf.flags.persistent ≡ true
       → has_origin kept ≡ true → has_carrier site (e ∷ past) ≡ true → message6_at site e ≡ None
       → IsRebind xid sent → Talk site e said (Some sent) → MayStand site said past Off kept
       → Stands site xid (e.moment + RESTART_TIME) e.moment None (e ∷ past)

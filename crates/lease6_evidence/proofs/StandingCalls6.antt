@@ -360,7 +360,7 @@ module _ (site : Site) (e : Entry) (past : List Entry) (salt : ℕ) (said : Opti
         → (unspent ≡ true → MayStand site said past Off kept) → (stands : Bool) → stands_at e.moment (here Off) ≡ stands
         → StandsAfter (begins_by stands)
     begins_standing stays none up may true is =
-        let persistent : Bool = site.managed.conf.persistent in
+        let persistent : Bool = site.managed.conf.flags.persistent in
         let one = and_parts (unspent && persistent && has_origin kept) (parting_begun e.moment (here Off)).stays is in
         let two = and_parts (unspent && persistent) (has_origin kept) one.0 in
         let three = and_parts unspent persistent two.0 in

@@ -7,7 +7,7 @@ use Rattle.v6_options.specs.declared.ia.IaKind.TheVariants.{Na}
 use Rattle.v6_options.specs.declared.ia.ItemSaid.{ItemSaid}
 use Rattle.v6_options.specs.Ias.{IaContent, ias_in}
 use Rattle.v6_message.specs.Replies.{Content6}
-use Rattle.v6_client.specs.declared.settings.IaAsk.{IaAsk}
+use Rattle.v6_client.specs.declared.setup.IaAsk.{IaAsk}
 use Rattle.v6_client.specs.Reading.{ia_for, no_binding, saids_of}
 use Rattle.world.specs.declared.wakes.Event.TheVariants.{Duplicate, Release, Stop}
 use Rattle.evidence_words.specs.Entries.{Entry}

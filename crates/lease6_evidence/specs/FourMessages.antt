@@ -11,6 +11,7 @@ use Rattle.world.specs.declared.wakes.Event.{Event}
 use Rattle.world.specs.declared.wakes.Event.TheVariants.{Frame, Quiet}
 use Rattle.settings.specs.declared.dhcp6_conf.ShareConf.{ShareConf}
 use Rattle.settings.specs.declared.interfaces.Managed.{Managed}
+use Rattle.settings.specs.Flags.{no_flags}
 use Rattle.client_model.specs.KeptLeases.{Beginning}
 use Rattle.evidence_words.specs.Entries.{Offer}
 use Rattle.evidence_words.specs.IfaceLives.{Opening, Met}
@@ -37,9 +38,7 @@ share = record {
 abbrev pub interface : Managed
 interface = record plain_eth0 {
   conf = record plain_eth0.conf {
-    nodhcp = true;
-    noipv4ll = true;
-    nodelay = true;
+    flags = record no_flags { nodhcp = true; noipv4ll = true; nodelay = true };
     dhcp6 = record {
       rapid = false;
       ias = record { kind = Na; iaid = 1; hint = 0 } ∷ record { kind = Pd; iaid = 2; hint = 0 } ∷ [];

@@ -5,7 +5,7 @@ use Rattle.net_types.specs.declared.address.Mac.{Mac}
 use Rattle.net_types.specs.declared.address.Net6.{Net6}
 use Rattle.lease6_text.specs.declared.lease.Item6.{Item6}
 use Rattle.lease6_text.specs.Leases.{IaLeaseContent, Lease6Content}
-use Rattle.v6_client.specs.declared.settings.IaAsk.{IaAsk}
+use Rattle.v6_client.specs.declared.setup.IaAsk.{IaAsk}
 use Rattle.v6_client.specs.Clients.{held_of}
 use Rattle.client_model.specs.Fitting.{FitsBeginning}
 use Rattle.client_model.specs.KeptLeases.{Beginning}
@@ -47,7 +47,7 @@ HeldItemsHaveBasis = (own : List Mac) (beginning : Beginning) (opening : Opening
 
 -- Where `persistent` isn't in force, or the kept lease doesn't tell where it is from, a Reply gave each.
 abbrev pub IsPlain6 : Site → Type 0
-IsPlain6 site = (site.managed.conf.persistent ≡ false) ⊎ HasNoOrigin site
+IsPlain6 site = (site.managed.conf.flags.persistent ≡ false) ⊎ HasNoOrigin site
 
 abbrev pub PlainItemsAreGiven : Type 0
 PlainItemsAreGiven = (site : Site) (ia : IaLeaseContent) (item : Item6) (past : List Entry) → IsPlain6 site

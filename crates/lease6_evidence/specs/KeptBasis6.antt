@@ -11,7 +11,7 @@ use Rattle.v6_message.specs.Replies.{Content6}
 use Rattle.v6_frames.specs.Spelled.{Sent6}
 use Rattle.lease6_text.specs.declared.lease.Item6.{Item6}
 use Rattle.lease6_text.specs.Leases.{IaLeaseContent, Lease6Content}
-use Rattle.v6_client.specs.declared.settings.IaAsk.{IaAsk}
+use Rattle.v6_client.specs.declared.setup.IaAsk.{IaAsk}
 use Rattle.v6_client.specs.declared.times.TheConstants.{RESTART_TIME}
 use Rattle.v6_client.specs.Items.{is_live}
 use Rattle.evidence_words.specs.Entries.{Entry}
@@ -72,7 +72,7 @@ pub record HasLiveItem (lease : Lease6Content) (ask : IaAsk) (net : Net6) (now :
 -- `persistent` is in force, and the lease that was kept for the interface tells its origin and has the item. The
 -- carrier is up and never went, and neither a release nor a stop came. Servers are being asked for the lease again.
 pub record KeptBasis6 (site : Site) (ask : IaAsk) (net : Net6) (now : ℕ) (past : List Entry) : Type 0 where
-  pub persistent : site.managed.conf.persistent ≡ true
+  pub persistent : site.managed.conf.flags.persistent ≡ true
   pub lease : Lease6Content
   pub kept : site.kept6 ≡ Some lease
   pub told : is_some lease.origin ≡ true

@@ -8,7 +8,7 @@ use Rattle.v6_message.specs.Replies.{Content6}
 use Rattle.v6_frames.specs.Spelled.{Sent6}
 use Rattle.lease6_text.specs.declared.lease.Item6.{Item6}
 use Rattle.lease6_text.specs.Leases.{IaLeaseContent, Lease6Content}
-use Rattle.v6_client.specs.declared.settings.IaAsk.{IaAsk}
+use Rattle.v6_client.specs.declared.setup.IaAsk.{IaAsk}
 use Rattle.v6_client.specs.declared.times.TheConstants.{RESTART_TIME}
 use Rattle.evidence_words.specs.Entries.{Entry}
 use Rattle.evidence_words.specs.Inputs.{Site}
@@ -26,7 +26,7 @@ KeptGivesNothing Where = (site : Site) (ask : IaAsk) (net : Net6) (now : ℕ) (p
 
 -- `persistent` isn't in force
 abbrev pub NeedsFlag6 : Type 0
-NeedsFlag6 = KeptGivesNothing (λ site ask net now past. site.managed.conf.persistent ≡ false)
+NeedsFlag6 = KeptGivesNothing (λ site ask net now past. site.managed.conf.flags.persistent ≡ false)
 
 -- no lease was kept, or one that doesn't tell where it is from
 abbrev pub HasNoOrigin : Site → Type 0

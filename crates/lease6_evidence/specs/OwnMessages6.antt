@@ -6,7 +6,7 @@ use Rattle.v6_message.specs.declared.kind.Kind6.TheVariants as kind
 use Rattle.v6_message.specs.Requests.{AskedContent, SaidContent}
 use Rattle.lease6_text.specs.LineParts.{is_same_kind}
 use Rattle.settings.specs.declared.interfaces.Managed.{Managed}
-use Rattle.v6_client.specs.declared.settings.IaAsk.{IaAsk}
+use Rattle.v6_client.specs.declared.setup.IaAsk.{IaAsk}
 use Rattle.v6_client.specs.Asking.{hinted}
 use Rattle.v6_client.specs.Items.{is_nonempty}
 use Rattle.client_model.specs.ClientSettings6.{ask_for}

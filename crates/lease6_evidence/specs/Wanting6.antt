@@ -13,7 +13,7 @@ use Rattle.v6_message.specs.Replies.{Content6}
 use Rattle.v6_frames.specs.Spelled.{Sent6}
 use Rattle.lease6_text.specs.declared.lease.Item6.{Item6}
 use Rattle.lease6_text.specs.Leases.{IaLeaseContent}
-use Rattle.v6_client.specs.declared.settings.IaAsk.{IaAsk}
+use Rattle.v6_client.specs.declared.setup.IaAsk.{IaAsk}
 use Rattle.v6_client.specs.Answers.{is_duid}
 use Rattle.v6_client.specs.Reading.{serves}
 use Rattle.evidence_words.specs.Entries.{Entry, Offer}

@@ -9,7 +9,7 @@ use Rattle.v6_options.specs.declared.ia.IaKind.TheVariants.{Na, Pd}
 use Rattle.v6_options.specs.declared.ia.ItemSaid.{ItemSaid}
 use Rattle.v6_options.specs.Ias.{ias_in}
 use Rattle.v6_message.specs.Replies.{Content6}
-use Rattle.v6_client.specs.declared.settings.IaAsk.{IaAsk}
+use Rattle.v6_client.specs.declared.setup.IaAsk.{IaAsk}
 use Rattle.v6_client.specs.declared.times.TheConstants.{FOREVER, SECOND}
 use Rattle.v6_client.specs.Reading.{ia_for, is_unbound}
 use Rattle.world.specs.declared.wakes.Event.{Event}

@@ -13,7 +13,7 @@ use Rattle.v6_message.specs.Replies.{Content6}
 use Rattle.lease6_text.specs.declared.lease.Item6.{Item6}
 use Rattle.lease6_text.specs.declared.lease.TheConstants.{ITEM_LIMIT}
 use Rattle.lease6_text.specs.Leases.{IaLeaseContent, Lease6Content}
-use Rattle.v6_client.specs.declared.settings.IaAsk.{IaAsk}
+use Rattle.v6_client.specs.declared.setup.IaAsk.{IaAsk}
 use Rattle.v6_client.specs.Answers.{is_duid, is_from, meeting_of, server_of, granted}
 use Rattle.v6_client.specs.Clients.{ClientContent}
 use Rattle.v6_client.specs.Items.{ia_with, is_nonempty}

@@ -97,8 +97,8 @@ pub again_time : (turn : Turn6) (exchange : Exchange6) → 900 ≤ exchange.rt �
 again_time turn exchange h = again_least exchange.rt (rand_in turn) h
 
 -- the delay of the first SOLICIT
-pub delay_most : (turn : Turn6) → first_delay turn ≤ (if turn.site.nodelay then 1 else 1000)
-delay_most turn = by_choice turn.site.nodelay (draw_of turn.salt turn.site.iface.index 1001) (drawn (turn.salt % 2 ^ 32 + turn.site.iface.index.number))
+pub delay_most : (turn : Turn6) → first_delay turn ≤ (if turn.site.flags.nodelay then 1 else 1000)
+delay_most turn = by_choice turn.site.flags.nodelay (draw_of turn.salt turn.site.iface.index 1001) (drawn (turn.salt % 2 ^ 32 + turn.site.iface.index.number))
   where
     drawn : (x : ℕ) → x % 1001 ≤ 1000
     drawn x = omega arith

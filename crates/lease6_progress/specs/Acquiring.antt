@@ -35,7 +35,7 @@ pub record HeldBy (s : Start) (turns : List ClientTurn) (end : ℕ) : Type 0 whe
 
 -- the longest delay of the first SOLICIT: a second, SOL_MAX_DELAY, or a millisecond (sections 7.6 and 18.2.1)
 abbrev pub longest_delay : SettingsContent → ℕ
-longest_delay settings = if settings.site.nodelay then 1 else 1000
+longest_delay settings = if settings.site.flags.nodelay then 1 else 1000
 
 -- the longest time for which offers are collected: the first SOLICIT's, and a tenth of it (sections 15 and 18.2.1)
 abbrev pub longest_choice : ℕ

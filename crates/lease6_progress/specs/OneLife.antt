@@ -5,6 +5,7 @@ use Rattle.v6_message.specs.declared.kind.ServerKind6.{ServerKind6}
 use Rattle.v6_message.specs.declared.kind.ServerKind6.TheVariants.{Advertise, Reply}
 use Rattle.v6_message.specs.Replies.{Content6}
 use Rattle.v6_client.specs.Settings.{SettingsContent}
+use Rattle.settings.specs.Flags.{no_flags}
 use Rattle.lease6_progress.specs.Acquiring.{BeginsAnew, RepliesAlone, longest_choice, longest_delay}
 use Rattle.lease6_progress.specs.ClientTurns.{ClientTurn, Quiet, Hears, Start, now_in}
 use Rattle.lease6_progress.specs.GoingWell.{Answered, EachQuestion, RebindsAlone, Fair, Prompt}
@@ -25,9 +26,8 @@ settings = record {
       name = record { bytes = 101 ∷ 116 ∷ 104 ∷ 48 ∷ 0 ∷ 0 ∷ 0 ∷ 0 ∷ 0 ∷ 0 ∷ 0 ∷ 0 ∷ 0 ∷ 0 ∷ 0 ∷ []; len = 4 };
       mac = record { bytes = 2 ∷ 0 ∷ 0 ∷ 0 ∷ 0 ∷ 1 ∷ [] };
     };
-    nodelay = true;
+    flags = record no_flags { nodelay = true };
     rapid = false;
-    persistent = false;
   };
   duid = client_duid;
   asks = record { kind = Na; iaid = 1; hint = 0 } ∷ record { kind = Pd; iaid = 2; hint = 0 } ∷ [];

@@ -5,7 +5,7 @@ use Rattle.std.specs.List.{list_any}
 use Rattle.v6_message.specs.declared.kind.ServerKind6.TheVariants.{Reply}
 use Rattle.v6_retrans.specs.declared.parameters.TheConstants.{SOLICIT}
 use Rattle.lease6_text.specs.Leases.{IaLeaseContent, Lease6Content}
-use Rattle.v6_client.specs.declared.settings.IaAsk.{IaAsk}
+use Rattle.v6_client.specs.declared.setup.IaAsk.{IaAsk}
 use Rattle.v6_client.specs.declared.states.Cause6.TheVariants.{Duplicate}
 use Rattle.v6_client.specs.declared.states.State6.TheVariants.{Bound}
 use Rattle.v6_client.specs.Calls.{fresh_in}

@@ -65,8 +65,8 @@ armed_none : (conf : IfConf) (at : ℕ) (iface : IfIndex) → HoldsNone (armed c
 armed_none conf at iface =
     gated HoldsNone (runs_dhcp4 conf) (armed_for_lease conf at (off iface))
     (if chooses_local conf then ll_armed (off iface) at ForNothing Choose else off iface)
-    (gated HoldsNone (nat_eq conf.timeout 0) (off iface)
-    (ll_armed (off iface) (at + SECOND * conf.timeout) ForLease (fallback_of (chooses_local conf))) refl refl)
+    (gated HoldsNone (nat_eq conf.times.timeout 0) (off iface)
+    (ll_armed (off iface) (at + SECOND * conf.times.timeout) ForLease (fallback_of (chooses_local conf))) refl refl)
     (gated HoldsNone (chooses_local conf) (ll_armed (off iface) at ForNothing Choose) (off iface) refl refl)
 
 -- ---- an interface that holds nothing
@@ -114,10 +114,10 @@ module _ (b : Beginning) (up : Bool) where
   abbrev made6 : ClientContent
   made6 = client6.client_made (settings6_of b.duid b.managed) b.kept6
 
-  not_standing6 : (at : ℕ) → b.managed.conf.persistent ≡ false → stands_at at made6 ≡ false
+  not_standing6 : (at : ℕ) → b.managed.conf.flags.persistent ≡ false → stands_at at made6 ≡ false
   not_standing6 at plain = ap (λ (wished : Bool). is_off Off && true && wished && has_origin b.kept6 && (parting_begun at made6).stays) plain
 
-  begins6_nothing : (at salt : ℕ) (f : Iface) → b.managed.conf.persistent ≡ false → IsFresh f → Holds (begin_dhcp6 at salt f)
+  begins6_nothing : (at salt : ℕ) (f : Iface) → b.managed.conf.flags.persistent ≡ false → IsFresh f → Holds (begin_dhcp6 at salt f)
   unfolding carrier_turned
   begins6_nothing at salt f plain fresh =
       gated Holds (runs_dhcp6 f.managed.conf) (dhcp6_step f (carrier_turned Up at salt f.dhcp6)) (silent f)
@@ -163,13 +163,13 @@ module _ (b : Beginning) (at salt : ℕ) where
   never true terms = refl
   never false terms = refl
 
-  none_stands : (kept : Option LeaseContent) → (b.managed.conf.persistent ≡ false) ⊎ IfSome kept (λ lease. lease.origin ≡ None)
+  none_stands : (kept : Option LeaseContent) → (b.managed.conf.flags.persistent ≡ false) ⊎ IfSome kept (λ lease. lease.origin ≡ None)
       → IfSome kept (λ lease. stood turn true (terms_of lease) ≡ None)
   none_stands None plain = tt
   none_stands (Some lease) (inl plain) = ap (λ (wished : Bool). if wished && true && is_some lease.origin then Some (terms_of lease) else None) plain
   none_stands (Some lease) (inr none) =
-      ap (λ (o : Option Origin). if b.managed.conf.persistent && true && is_some o then Some (terms_of lease) else None) none
-      ∙ never b.managed.conf.persistent (terms_of lease)
+      ap (λ (o : Option Origin). if b.managed.conf.flags.persistent && true && is_some o then Some (terms_of lease) else None) none
+      ∙ never b.managed.conf.flags.persistent (terms_of lease)
 
   -- ---- DHCPv4 alone
 
@@ -181,8 +181,8 @@ module _ (b : Beginning) (at salt : ℕ) where
   begun4 None none = refl
   begun4 (Some lease) none =
       gated (λ (step : Step4). HeldNone (dhcp4_step at (record lit { dhcp4 = record lit.dhcp4 { kept = Some lease } }) (record step { spends = true })))
-      (is_due (expiry (terms_of lease)) at || nat_eq b.managed.conf.reboot 0) (to_init turn)
-      (rebooting turn (new_exchange turn lease.net.ip) Four (at + SECOND * b.managed.conf.reboot) (stood turn true (terms_of lease))) refl
+      (is_due (expiry (terms_of lease)) at || nat_eq b.managed.conf.times.reboot 0) (to_init turn)
+      (rebooting turn (new_exchange turn lease.net.ip) Four (at + SECOND * b.managed.conf.times.reboot) (stood turn true (terms_of lease))) refl
       (ap (λ (stands : Option Terms4). if is_some stands then Some lease else None) none)
 
   first4 : NoneStands → HeldNone (begin_dhcp4 at salt lit)
@@ -220,8 +220,8 @@ module _ (b : Beginning) (at salt : ℕ) where
   begins_silent : (kept : Option Terms4) → (inputs.begins turn true kept).news ≡ news.Nothing
   begins_silent None = refl
   begins_silent (Some terms) =
-      gated (λ (step : Step4). step.news ≡ news.Nothing) (is_due (expiry terms) at || nat_eq b.managed.conf.reboot 0) (to_init turn)
-      (rebooting turn (new_exchange turn terms.net.ip) Four (at + SECOND * b.managed.conf.reboot) (stood turn true terms)) refl refl
+      gated (λ (step : Step4). step.news ≡ news.Nothing) (is_due (expiry terms) at || nat_eq b.managed.conf.times.reboot 0) (to_init turn)
+      (rebooting turn (new_exchange turn terms.net.ip) Four (at + SECOND * b.managed.conf.times.reboot) (stood turn true terms)) refl refl
 
   first_still : NoneStands → IsStill b true (begin_dhcp4 at salt lit).iface
   first_still none =
@@ -233,7 +233,7 @@ module _ (b : Beginning) (at salt : ℕ) where
         still = refl;
       })
 
-  module _ (plain : b.managed.conf.persistent ≡ false) where
+  module _ (plain : b.managed.conf.flags.persistent ≡ false) where
     comes_nothing : HoldsNothing b true (carrier_comes at salt (resting b)).iface
     comes_nothing =
         begins6_nothing b true at salt (begin_local at (begin_dhcp4 at salt lit).iface).iface plain

@@ -35,7 +35,7 @@ differ false t f = absurd cc
 -- ---- the settings and the lease
 
 pub needs_flag : NeedsFlag
-needs_flag site net now past off basis = differ site.managed.conf.persistent basis.persistent off
+needs_flag site net now past off basis = differ site.managed.conf.flags.persistent basis.persistent off
 
 -- what is so of the lease that was kept is so of that of the basis
 of_kept : (P : LeaseContent → Type 0) (kept : Option LeaseContent) (lease : LeaseContent) → kept ≡ Some lease → IfSome kept P → P lease

@@ -28,7 +28,7 @@ use Rattle.v4_frames.specs.Ours.{is_ours}
 use Rattle.v4_client.specs.declared.moments.Backoff.{Backoff}
 use Rattle.v4_client.specs.declared.moments.Backoff.TheVariants.{Four, Eight, Sixteen, ThirtyTwo, SixtyFour}
 use Rattle.v4_client.specs.declared.moments.TheConstants.{SECOND}
-use Rattle.v4_client.specs.declared.settings.Site4.{Site4}
+use Rattle.v4_client.specs.declared.setup.Site4.{Site4}
 use Rattle.v4_client.specs.declared.states.Answer4.{Answer4}
 use Rattle.v4_client.specs.declared.states.Answer4.TheVariants as answer
 use Rattle.v4_client.specs.declared.states.Exchange4.{Exchange4}
@@ -136,7 +136,7 @@ module _ (mac : Mac) where
 
 -- a client as its settings make it
 abbrev pub speaker_at : Site4 → Speaker
-speaker_at site = speaker_by site.iface.mac site.broadcast
+speaker_at site = speaker_by site.iface.mac site.flags.broadcast
 
 -- such a client may say it
 abbrev pub IsOwn : Site4 → Say4 → Type 0
@@ -192,29 +192,29 @@ module _ (turn : Turn4) where
   ends = record { names = tt; own = tt }
 
   selects : (xid began : ℕ) (backoff : Backoff) → OwnStep (selecting turn xid began backoff)
-  selects xid began backoff = record { names = tt; own = discover_own mac xid (secs_since began turn.at) turn.site.broadcast }
+  selects xid began backoff = record { names = tt; own = discover_own mac xid (secs_since began turn.at) turn.site.flags.broadcast }
 
   requests : (exchange : Exchange4) (secs : ℕ) (backoff : Backoff) → is_some exchange.server ≡ true → OwnStep (requesting turn exchange secs backoff)
   requests exchange secs backoff n = record { names = n; own = by_server exchange.server n }
     where
       by_server : (server : Option Ip4) → is_some server ≡ true
-          → is_ours (speaker_at turn.site) (unaddressed mac Request exchange.xid secs (flags_by turn.site.broadcast) (Some exchange.address) server) ≡ true
+          → is_ours (speaker_at turn.site) (unaddressed mac Request exchange.xid secs (flags_by turn.site.flags.broadcast) (Some exchange.address) server) ≡ true
       by_server None h = absurd cc
-      by_server (Some server) h = selecting_own mac exchange.xid secs turn.site.broadcast exchange.address server
+      by_server (Some server) h = selecting_own mac exchange.xid secs turn.site.flags.broadcast exchange.address server
 
   reboots : (exchange : Exchange4) (backoff : Backoff) (end : ℕ) (stands : Option Terms4) → OwnStep (rebooting turn exchange backoff end stands)
-  reboots exchange backoff end stands = record { names = tt; own = rebooting_own mac exchange.xid turn.site.broadcast exchange.address exchange.server }
+  reboots exchange backoff end stands = record { names = tt; own = rebooting_own mac exchange.xid turn.site.flags.broadcast exchange.address exchange.server }
 
   renews : (exchange : Exchange4) (terms : Terms4) (acd : Option Acd) → IsHost terms → OwnStep (renewing turn exchange terms acd)
   renews exchange terms acd host =
-      record { names = tt; own = held_own mac exchange.xid turn.site.broadcast terms.net.ip terms.server_mac terms.server (some_address terms.net.ip host) }
+      record { names = tt; own = held_own mac exchange.xid turn.site.flags.broadcast terms.net.ip terms.server_mac terms.server (some_address terms.net.ip host) }
 
   rebinds : (exchange : Exchange4) (terms : Terms4) (acd : Option Acd) → IsHost terms → OwnStep (rebinding turn exchange terms acd)
   rebinds exchange terms acd host =
-      record { names = tt; own = held_own mac exchange.xid turn.site.broadcast terms.net.ip EVERY_MAC every_address (some_address terms.net.ip host) }
+      record { names = tt; own = held_own mac exchange.xid turn.site.flags.broadcast terms.net.ip EVERY_MAC every_address (some_address terms.net.ip host) }
 
   refuses : (xid : ℕ) (terms : Terms4) (news : News4) → OwnStep (declines turn xid terms news)
-  refuses xid terms news = record { names = tt; own = decline_own mac xid turn.site.broadcast terms.net.ip terms.server }
+  refuses xid terms news = record { names = tt; own = decline_own mac xid turn.site.flags.broadcast terms.net.ip terms.server }
 
   defends : (xid : ℕ) (terms : Terms4) (state : State4) (says : AcdSays) → HasServer state → OwnStep (defended turn xid terms state says)
   defends xid terms state Quiet n = record { names = n; own = tt }
@@ -284,7 +284,7 @@ module _ (turn : Turn4) where
   offering xid secs state answer.Nak n = rests_own state n
 
   grants : (xid : ℕ) (terms : Terms4) (origin : Origin4) (stands : Option Terms4) → OwnStep (granted turn xid terms origin stands)
-  grants xid terms origin stands = gated OwnStep turn.site.noarp _ _ (record { names = tt; own = tt }) (record { names = tt; own = tt })
+  grants xid terms origin stands = gated OwnStep turn.site.flags.noarp _ _ (record { names = tt; own = tt }) (record { names = tt; own = tt })
 
   answering : (xid : ℕ) (origin : Origin4) (stands : Option Terms4) (state : State4) (said : Answer4) → HasServer state
       → OwnStep (answered turn xid origin stands state said)
@@ -339,8 +339,8 @@ module _ (turn : Turn4) where
   enters : (may_stand : Bool) (kept : Option Terms4) → OwnStep (entered turn may_stand kept)
   enters may_stand None = inits
   enters may_stand (Some terms) =
-      gated OwnStep (is_due (expiry terms) turn.at || (turn.site.reboot == 0)) _ _ inits
-      (reboots (new_exchange turn terms.net.ip) Four (turn.at + SECOND * turn.site.reboot) (stood turn may_stand terms))
+      gated OwnStep (is_due (expiry terms) turn.at || (turn.site.times.reboot == 0)) _ _ inits
+      (reboots (new_exchange turn terms.net.ip) Four (turn.at + SECOND * turn.site.times.reboot) (stood turn may_stand terms))
 
   begun : (may_stand : Bool) (kept : Option Terms4) → OwnStep (begins turn may_stand kept)
   begun may_stand kept = let entering : OwnStep (entered turn may_stand kept) = enters may_stand kept in record { names = entering.names; own = entering.own }
@@ -376,7 +376,7 @@ module _ (turn : Turn4) where
   lets_go Server terms host =
       record {
         names = tt;
-        own = releasing_own mac (new_xid turn) turn.site.broadcast terms.net.ip terms.server_mac terms.server (some_address terms.net.ip host);
+        own = releasing_own mac (new_xid turn) turn.site.flags.broadcast terms.net.ip terms.server_mac terms.server (some_address terms.net.ip host);
       }
   lets_go Nobody terms host = record { names = tt; own = tt }
 

@@ -145,7 +145,7 @@ abbrev AnyTurn : TurnWord
 AnyTurn e past = Unit {0}
 
 -- the address that a basis is of was probed
-probed_of : (site : Site) (addr : Net4) (now : ℕ) (past : List Entry) → site.managed.conf.noarp ≡ false → LeaseBasis site (V4 addr) now past
+probed_of : (site : Site) (addr : Net4) (now : ℕ) (past : List Entry) → site.managed.conf.flags.noarp ≡ false → LeaseBasis site (V4 addr) now past
     → Since (Calm site) (Fourth (Calm site) AnyTurn site addr.ip) past
 probed_of site addr now past probes basis =
     let same : addr ≡ basis.terms.net = one_net addr basis.terms.net basis.gives in

@@ -65,7 +65,7 @@ module _ (site : Site) (ask : AskContent) (clean : Type 0) (e : Entry) (past : L
 
     -- ---- a message
 
-    module _ (settings : SettingsContent) (arrival : Arrival) (turn : Turn4) (arped : turn.site.noarp ≡ site.managed.conf.noarp)
+    module _ (settings : SettingsContent) (arrival : Arrival) (turn : Turn4) (arped : turn.site.flags.noarp ≡ site.managed.conf.flags.noarp)
         (silent : arp_on (index_at site) e.event e.bytes ≡ None) where
       none : (state : State4) → Uncontested state
       none state xid terms origin acd stands is = ap (tells_contest site.own acd.addr) silent
@@ -78,11 +78,11 @@ module _ (site : Site) (ask : AskContent) (clean : Type 0) (e : Entry) (past : L
 
       granting : (xid : ℕ) (terms : Terms4) (origin : Origin4) (stands : Option Terms4) → Then (granted turn xid terms origin stands)
       granting xid terms origin stands =
-          split turn.site.noarp
+          split turn.site.flags.noarp
           (λ off. rw off (λ calm on. absurd (both off (arped ∙ on))))
           (λ on. rw on (λ calm. (refl, (lit≤ tt, λ k. tt))))
         where
-          both : turn.site.noarp ≡ true → turn.site.noarp ≡ false → ⊥
+          both : turn.site.flags.noarp ≡ true → turn.site.flags.noarp ≡ false → ⊥
           both a b = cc
 
       answering_said : (xid : ℕ) (origin : Origin4) (stands : Option Terms4) (state : State4) (said : Answer4) → Bears site clean state (e ∷ past)
@@ -199,7 +199,7 @@ module _ (site : Site) (ask : AskContent) (clean : Type 0) (e : Entry) (past : L
       begun : (may_stand : Bool) (kept : Option Terms4) → Then (begins turn may_stand kept)
       begun may_stand None = λ calm. tt
       begun may_stand (Some terms) =
-          gated (λ (step : Step4). Then (record step { spends = true })) (is_due (expiry terms) turn.at || eqb turn.site.reboot 0) _ _ (λ calm. tt) (λ calm. tt)
+          gated (λ (step : Step4). Then (record step { spends = true })) (is_due (expiry terms) turn.at || eqb turn.site.times.reboot 0) _ _ (λ calm. tt) (λ calm. tt)
 
       pub begin_bears : (may_stand : Bool) (kept : Option Terms4) (state : State4) → Amid state → Then (begin_row turn may_stand kept state)
       begin_bears may_stand kept Off b = begun may_stand kept

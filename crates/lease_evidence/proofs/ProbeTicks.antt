@@ -45,7 +45,7 @@ module _ (site : Site) where
 
   -- an address is probed, where addresses are
   abbrev pub IsProbed : Ip4 → List Entry → Type 0
-  IsProbed addr past = site.managed.conf.noarp ≡ false → Probed C C site addr past
+  IsProbed addr past = site.managed.conf.flags.noarp ≡ false → Probed C C site addr past
 
   -- of the probes that were said only where no send of the last turn failed
   abbrev pub Probes4 : (clean : Type 0) → Ip4 → Phase → List Entry → Type 0
@@ -73,7 +73,7 @@ module _ (site : Site) where
     OfferedHere said = frames.Offered site.managed.spec ask clean said (offers_at site e)
 
     abbrev pub IsProbedAmid : Ip4 → Type 0
-    IsProbedAmid addr = site.managed.conf.noarp ≡ false → Probed C C site addr past ⊎ Probes C C site addr 3 2000 e.moment past
+    IsProbedAmid addr = site.managed.conf.flags.noarp ≡ false → Probed C C site addr past ⊎ Probes C C site addr 3 2000 e.moment past
 
     abbrev pub Probes4Amid : List Said → Ip4 → Phase → Type 0
     Probes4Amid said addr (Probing n due) =

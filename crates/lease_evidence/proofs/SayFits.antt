@@ -47,7 +47,7 @@ use Rattle.v4_message.specs.declared.writing.Kind4.{Kind4}
 use Rattle.v4_message.specs.declared.writing.Kind4.TheVariants.{Discover, Request, Decline, Release}
 use Rattle.v4_frames.specs.declared.speaker.TheConstants.{BROADCAST_FLAG}
 use Rattle.v4_frames.specs.InRange.{FitsIp4, FitsMac, FitsSent}
-use Rattle.v4_client.specs.declared.settings.Site4.{Site4}
+use Rattle.v4_client.specs.declared.setup.Site4.{Site4}
 use Rattle.v4_client.specs.Moments.{secs_since}
 use Rattle.v4_client.specs.Steps.{new_xid, selecting, discovers, standing_news}
 use Rattle.lease_evidence.proofs.ReplyFacts.{IsGranted, is_granted, is_offered}
@@ -96,7 +96,7 @@ host_fits address h =
     omega (arith, le)
 
 flags_fit : (site : Site4) → flags site < 2 ^ 16
-flags_fit site = gated (λ n. n < 2 ^ 16) site.broadcast BROADCAST_FLAG 0 (lit< tt) (lit< tt)
+flags_fit site = gated (λ n. n < 2 ^ 16) site.flags.broadcast BROADCAST_FLAG 0 (lit< tt) (lit< tt)
 
 secs_fit : (began at : ℕ) → secs_since began at < 2 ^ 16
 secs_fit began at = omega arith
@@ -297,7 +297,7 @@ module _ (turn : Turn4) (mac : FitsMac turn.site.iface.mac) where
         → FitsAsk exchange → IfSome stands FitsGrant → FitsFields state → FitsStep (answered turn exchange.xid origin stands state said)
     answering_fits exchange origin stands state (answer.Ack terms) is a s f =
         let t : FitsGrant terms = granted_fits exchange terms a is in
-        gated FitsStep turn.site.noarp _ _ (record { state = (a.xid, t); say = tt }) (record { state = (a.xid, t, s); say = tt })
+        gated FitsStep turn.site.flags.noarp _ _ (record { state = (a.xid, t); say = tt }) (record { state = (a.xid, t, s); say = tt })
     answering_fits exchange origin stands state answer.Nak is a s f = record { state = tt; say = tt }
     answering_fits exchange origin stands state answer.Nothing is a s f = rests_fits state f
     answering_fits exchange origin stands state (answer.Offer address server) is a s f = rests_fits state f
@@ -359,8 +359,8 @@ module _ (turn : Turn4) (mac : FitsMac turn.site.iface.mac) where
 
   stood_fits : (may_stand : Bool) (terms : Terms4) → (may_stand ≡ true → FitsGrant terms) → IfSome (stood turn may_stand terms) FitsGrant
   stood_fits true terms g =
-      gated (λ (s : Option Terms4). IfSome s FitsGrant) (turn.site.persistent && true && is_some terms.origin) (Some terms) None (g refl) tt
-  stood_fits false terms g = never turn.site.persistent
+      gated (λ (s : Option Terms4). IfSome s FitsGrant) (turn.site.flags.persistent && true && is_some terms.origin) (Some terms) None (g refl) tt
+  stood_fits false terms g = never turn.site.flags.persistent
     where
       never : (wished : Bool) → IfSome (if wished && false && is_some terms.origin then Some terms else None) FitsGrant
       never true = tt
@@ -370,10 +370,10 @@ module _ (turn : Turn4) (mac : FitsMac turn.site.iface.mac) where
   begun_fits may_stand None k = record { state = tt; say = tt }
   begun_fits may_stand (Some terms) k =
       let stands : Option Terms4 = stood turn may_stand terms in
-      let fits : FitsStep (rebooting turn (new_exchange turn terms.net.ip) Four (turn.at + SECOND * turn.site.reboot) stands) =
-      rebooting_fits (new_exchange turn terms.net.ip) Four (turn.at + SECOND * turn.site.reboot) stands (new_fits terms.net.ip k.0)
+      let fits : FitsStep (rebooting turn (new_exchange turn terms.net.ip) Four (turn.at + SECOND * turn.site.times.reboot) stands) =
+      rebooting_fits (new_exchange turn terms.net.ip) Four (turn.at + SECOND * turn.site.times.reboot) stands (new_fits terms.net.ip k.0)
       (stood_fits may_stand terms k.1) in
-      gated (λ (step : Step4). FitsStep (record step { spends = true })) (is_due (expiry terms) turn.at || eqb turn.site.reboot 0) _ _
+      gated (λ (step : Step4). FitsStep (record step { spends = true })) (is_due (expiry terms) turn.at || eqb turn.site.times.reboot 0) _ _
       (record { state = tt; say = tt }) (record { state = fits.state; say = fits.say })
 
   pub begin_fits : (may_stand : Bool) (kept : Option Terms4) (state : State4) → FitsKept may_stand kept → FitsFields state

@@ -74,7 +74,7 @@ pub record MayStand (site : Site) (past : List Entry) (state : State4) (kept : O
 
 -- the kept lease is asked for in this exchange alone
 pub record IsAsking (site : Site) (past : List Entry) (lease : LeaseContent) (xid : ℕ) : Type 0 where
-  pub persistent : site.managed.conf.persistent ≡ true
+  pub persistent : site.managed.conf.flags.persistent ≡ true
   pub filed : site.kept4 ≡ Some lease
   pub told : is_some lease.origin ≡ true
   pub up : has_carrier site past ≡ true
@@ -468,7 +468,7 @@ module _ (site : Site) (e : Entry) (past : List Entry) (first : Option Sent4) (n
         → IfSome stands (λ old. Reboots site past exchange kept old × IfSome first (AsksAgain exchange.xid exchange.address))
         → (NoNak → AfterInput (rests turn state)) → AfterInput (answered turn exchange.xid from stands state said)
     answers_on exchange k from stands state (answer.Ack terms) is asks h on =
-        gated AfterInput turn.site.noarp _ _ (λ shows. tt)
+        gated AfterInput turn.site.flags.noarp _ _ (λ shows. tt)
         (λ shows. if_map (λ old. Reboots site past exchange kept old × IfSome first (AsksAgain exchange.xid exchange.address))
         (Checks site (e ∷ past) exchange.xid kept) stands
         (λ old r. acked exchange terms old is (open_is exchange k asks shows) shows r) h)
@@ -563,9 +563,9 @@ module _ (site : Site) (e : Entry) (past : List Entry) (first : Option Sent4) (n
     test_of wished may told = wished && may && told
 
     -- the first message of all
-    starts : (lease : LeaseContent) → turn.site.persistent ≡ site.managed.conf.persistent → has_carrier site (e ∷ past) ≡ true
+    starts : (lease : LeaseContent) → turn.site.flags.persistent ≡ site.managed.conf.flags.persistent → has_carrier site (e ∷ past) ≡ true
         → MayStand site past Off (Some lease) → first ≡ None
-        → turn.site.persistent ≡ true → is_some lease.origin ≡ true
+        → turn.site.flags.persistent ≡ true → is_some lease.origin ≡ true
         → ShowsBoth site e past first (Some (sent_of (request turn.site (new_exchange turn lease.net.ip) 0)))
         → Reboots site (e ∷ past) (new_exchange turn lease.net.ip) (Some lease) (terms_of lease)
     starts lease flag up m silent wished told shows = record {
@@ -598,14 +598,14 @@ module _ (site : Site) (e : Entry) (past : List Entry) (first : Option Sent4) (n
     both_true false b c h = absurd cc
 
     stood_if : (may : Bool) (terms : Terms4) (P : Terms4 → Type 0)
-        → ((turn.site.persistent ≡ true) × (may ≡ true) × (is_some terms.origin ≡ true) → P terms) → IfSome (stood turn may terms) P
-    stood_if may terms P f = by (turn.site.persistent && may && is_some terms.origin) refl
+        → ((turn.site.flags.persistent ≡ true) × (may ≡ true) × (is_some terms.origin ≡ true) → P terms) → IfSome (stood turn may terms) P
+    stood_if may terms P f = by (turn.site.flags.persistent && may && is_some terms.origin) refl
       where
-        by : (test : Bool) → (turn.site.persistent && may && is_some terms.origin) ≡ test → IfSome (if test then Some terms else None) P
-        by true is = f (both_true turn.site.persistent may (is_some terms.origin) is)
+        by : (test : Bool) → (turn.site.flags.persistent && may && is_some terms.origin) ≡ test → IfSome (if test then Some terms else None) P
+        by true is = f (both_true turn.site.flags.persistent may (is_some terms.origin) is)
         by false is = tt
 
-  module _ (turn : Turn4) (none : NoNak) (flag : turn.site.persistent ≡ site.managed.conf.persistent) (up : has_carrier site (e ∷ past) ≡ true) where
+  module _ (turn : Turn4) (none : NoNak) (flag : turn.site.flags.persistent ≡ site.managed.conf.flags.persistent) (up : has_carrier site (e ∷ past) ≡ true) where
     kept_off : (state : State4) (other : Option LeaseContent) → kept ≡ other → MayStand site past state kept → MayStand site past Off other
     kept_off state other same m =
         record {
@@ -622,7 +622,7 @@ module _ (site : Site) (e : Entry) (past : List Entry) (first : Option Sent4) (n
         → AfterInput (begins turn may (option_map terms_of filed))
     begun_on may before None is = λ shows. tt
     begun_on may before (Some lease) is =
-        gated (λ (step : Step4). AfterInput (record step { spends = true })) (is_due (expiry (terms_of lease)) turn.at || eqb turn.site.reboot 0) _ _
+        gated (λ (step : Step4). AfterInput (record step { spends = true })) (is_due (expiry (terms_of lease)) turn.at || eqb turn.site.times.reboot 0) _ _
         (λ shows. tt)
         (λ shows. stood_if turn none may (terms_of lease) (Reboots site (e ∷ past) (new_exchange turn lease.net.ip) kept)
         (λ h.

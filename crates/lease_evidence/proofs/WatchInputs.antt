@@ -146,7 +146,7 @@ module _ (settings : SettingsContent) (arrival : Arrival) (turn : Turn4) (now : 
     answers : (xid : ℕ) (origin : Origin4) (stands : Option Terms4) (state : State4) (said : Answer4) → reply exchange ≡ said → IfSome stands (Lasts turn.at)
         → On (Lasts turn.at) state (Some x) k.answered k.grant → Heard (Some x) (answered turn xid origin stands state said)
     answers xid origin stands state (answer.Ack terms) is stood on =
-        gated (Heard (Some x)) turn.site.noarp _ _
+        gated (Heard (Some x)) turn.site.flags.noarp _ _
         (takes terms (Bound xid terms None) is (λ a h. (a, h)))
         (takes terms (Checking xid terms origin (detection.acd_begun turn.site.iface.index terms.net.ip turn.at turn.salt) stands) is
         (λ a h. (a, (h.0, tt), stood)))
@@ -263,19 +263,19 @@ module _ (turn : Turn4) (count : ℕ) (current : Option Numbered) (k : Kept) (wi
   -- a kept lease on which the client stands from now on isn't over
   stood_lasts : (may_stand : Bool) (terms : Terms4) → is_due (expiry terms) turn.at ≡ false → IfSome (stood turn may_stand terms) (Lasts turn.at)
   stood_lasts may_stand terms lasts =
-      gated (λ (s : Option Terms4). IfSome s (Lasts turn.at)) (turn.site.persistent && may_stand && is_some terms.origin) (Some terms) None lasts tt
+      gated (λ (s : Option Terms4). IfSome s (Lasts turn.at)) (turn.site.flags.persistent && may_stand && is_some terms.origin) (Some terms) None lasts tt
 
   begun : (may_stand : Bool) (kept : Option Terms4) → Then (begins turn may_stand kept)
   begun may_stand None = record { xid = last; on = tt }
   begun may_stand (Some terms) =
       let exchange : Exchange4 = new_exchange turn terms.net.ip in
-      let end : ℕ = turn.at + SECOND * turn.site.reboot in
+      let end : ℕ = turn.at + SECOND * turn.site.times.reboot in
       let stands : Option Terms4 = stood turn may_stand terms in
-      split (is_due (expiry terms) turn.at || eqb turn.site.reboot 0) (λ over. rw over (record { xid = last; on = tt }))
+      split (is_due (expiry terms) turn.at || eqb turn.site.times.reboot 0) (λ over. rw over (record { xid = last; on = tt }))
       (λ asks. rw asks
       (asks_anew (Lasts turn.at) turn.at (sent_of (request turn.site exchange 0)).said exchange
       (rebooting turn exchange Four end stands).state count current k within
-      (fresh turn current last) refl (λ x is. (is, stood_lasts may_stand terms (first_false (is_due (expiry terms) turn.at) (eqb turn.site.reboot 0) asks)))))
+      (fresh turn current last) refl (λ x is. (is, stood_lasts may_stand terms (first_false (is_due (expiry terms) turn.at) (eqb turn.site.times.reboot 0) asks)))))
 
   pub begin_watched : (may_stand : Bool) (kept : Option Terms4) (state : State4) → On (Lasts turn.at) state current k.answered k.grant
       → Then (begin_row turn may_stand kept state)

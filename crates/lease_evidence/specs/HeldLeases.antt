@@ -38,7 +38,7 @@ HeldLeasesHaveBasis = (own : List Mac) (beginning : Beginning) (opening : Openin
 
 -- Where `persistent` isn't in force, or the kept lease doesn't tell its origin, an ACK granted each.
 abbrev pub IsPlain4 : Site → Type 0
-IsPlain4 site = (site.managed.conf.persistent ≡ false) ⊎ HasNoOrigin site
+IsPlain4 site = (site.managed.conf.flags.persistent ≡ false) ⊎ HasNoOrigin site
 
 abbrev pub PlainLeasesAreGranted : Type 0
 PlainLeasesAreGranted = (site : Site) (net : Net) (now : ℕ) (past : List Entry) → IsPlain4 site
@@ -82,6 +82,6 @@ configured_rows managed in_force =
 -- Without `persistent` the rows of an interface after the opening are those of static addresses alone, whatever was
 -- kept.
 abbrev pub BeginsWithStaticRows : Type 0
-BeginsWithStaticRows = (beginning : Beginning) (opening : Opening) → beginning.managed.conf.persistent ≡ false
+BeginsWithStaticRows = (beginning : Beginning) (opening : Opening) → beginning.managed.conf.flags.persistent ≡ false
     → iface_rows (opens beginning opening).iface
     ≡ configured_rows beginning.managed (is_up opening.up beginning.managed.spec.index.number)

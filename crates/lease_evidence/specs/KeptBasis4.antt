@@ -56,7 +56,7 @@ IsUnrefused site e past = (opened : Numbered) → GoodNak site opened e past →
 -- over now. The carrier is up and never went, and neither a release nor a stop came. Each DHCPv4 message of this life,
 -- and there was one, is a REQUEST of one exchange for the address, and the exchange isn't refused.
 pub record KeptBasis4 (site : Site) (net : Net) (now : ℕ) (past : List Entry) : Type 0 where
-  pub persistent : site.managed.conf.persistent ≡ true
+  pub persistent : site.managed.conf.flags.persistent ≡ true
   pub lease : LeaseContent
   pub kept : site.kept4 ≡ Some lease
   pub told : is_some lease.origin ≡ true

@@ -21,7 +21,7 @@ KeptGivesNothing Where = (site : Site) (net : Net) (now : ℕ) (past : List Entr
 
 -- `persistent` isn't in force
 abbrev pub NeedsFlag : Type 0
-NeedsFlag = KeptGivesNothing (λ site net now past. site.managed.conf.persistent ≡ false)
+NeedsFlag = KeptGivesNothing (λ site net now past. site.managed.conf.flags.persistent ≡ false)
 
 -- no lease was kept, or one that doesn't tell its origin
 abbrev pub HasNoOrigin : Site → Type 0

@@ -77,7 +77,7 @@ pub record IsOwnFrame (site : Site) (frame : List ℕ) (sent : Sent4) : Type 0 w
   pub spelled : frame ≡ dhcp4.frame_of (ask_of site.duid site.managed) sent
   pub mac : sent.said.mac ≡ site.managed.spec.mac
   pub source : sent.ends.from_mac ≡ site.managed.spec.mac
-  pub flags : sent.said.flags ≡ flags_wanted site.managed.conf.broadcast sent.said
+  pub flags : sent.said.flags ≡ flags_wanted site.managed.conf.flags.broadcast sent.said
   pub secs : tells_seconds sent.said sent.said.kind ≡ false → sent.said.secs ≡ 0
   pub from : sent.ends.from.number ≡ sent.said.ciaddr.number
   pub to : sent.said.ciaddr.number ≡ 0 → sent.ends.to.number ≡ 0xffffffff

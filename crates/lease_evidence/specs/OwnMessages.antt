@@ -9,7 +9,7 @@ use Rattle.settings.specs.declared.interfaces.Managed.{Managed}
 
 -- the client of an interface, as its messages show it
 abbrev pub speaker_of : Managed → Speaker
-speaker_of managed = record { mac = managed.spec.mac; broadcast = managed.conf.broadcast }
+speaker_of managed = record { mac = managed.spec.mac; broadcast = managed.conf.flags.broadcast }
 
 abbrev pub if_ours : Speaker → Sent4 → Option Sent4
 if_ours speaker sent = if is_ours speaker sent then Some sent else None

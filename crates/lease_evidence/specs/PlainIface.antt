@@ -3,7 +3,9 @@ use Rattle.std.specs.Prelude.{false, [], ◌∷◌, None}
 use Rattle.net_types.specs.declared.address.Mac.{Mac}
 use Rattle.settings.specs.declared.interfaces.Managed.{Managed}
 use Rattle.settings.specs.Dhcp4Settings.{Hardware}
+use Rattle.settings.specs.Flags.{no_flags}
 use Rattle.settings.specs.HookSettings.{Nothing}
+use Rattle.settings.specs.Times.{usual_times}
 
 abbrev pub client_mac : Mac
 client_mac = record { bytes = 2 ∷ 0 ∷ 0 ∷ 0 ∷ 0 ∷ 1 ∷ [] }
@@ -17,17 +19,8 @@ plain_eth0 = record {
     mac = client_mac;
   };
   conf = record {
-    ipv4only = false;
-    ipv6only = false;
-    nodhcp = false;
-    nodhcp6 = false;
-    noipv4ll = false;
-    nodelay = false;
-    noarp = false;
-    broadcast = false;
-    release = false;
-    timeout = 30;
-    reboot = 5;
+    flags = no_flags;
+    times = usual_times;
     metric = None;
     address = None;
     address6 = None;
@@ -45,6 +38,5 @@ plain_eth0 = record {
     dhcp6 = record { rapid = false; ias = []; shares = [] };
     resolver = record { servers = []; search = []; domain = [] };
     hooks = record { script = Nothing; env = [] };
-    persistent = false;
   };
 }

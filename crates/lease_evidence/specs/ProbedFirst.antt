@@ -13,7 +13,7 @@ use Rattle.lease_evidence.specs.LeaseBasis.{LeaseBasis}
 
 -- Fewer than three probes that the link took give no basis, unless addresses aren't to be probed.
 abbrev pub NeedsThreeProbes : Type 0
-NeedsThreeProbes = (site : Site) (addr : Net4) (now : ℕ) (past : List Entry) → site.managed.conf.noarp ≡ false
+NeedsThreeProbes = (site : Site) (addr : Net4) (now : ℕ) (past : List Entry) → site.managed.conf.flags.noarp ≡ false
     → probes_taken site addr.ip past < 3 → LeaseBasis site (V4 addr) now past → ⊥
 
 -- the carrier is lost, the leases are given back, a stop comes, or a message is said that tells that no lease is held
@@ -25,19 +25,19 @@ Disturbs site e earlier =
 -- Nor do fewer than three from the last such turn on.
 abbrev pub ProbesBeginAnew : Type 0
 ProbesBeginAnew = (site : Site) (addr : Net4) (now : ℕ) (later : List Entry) (e : Entry) (earlier : List Entry)
-    → site.managed.conf.noarp ≡ false → Disturbs site e earlier → probes_taken site addr.ip (later ++ e ∷ []) < 3
+    → site.managed.conf.flags.noarp ≡ false → Disturbs site e earlier → probes_taken site addr.ip (later ++ e ∷ []) < 3
     → LeaseBasis site (V4 addr) now (later ++ e ∷ earlier) → ⊥
 
 -- Nor do fewer than three before and fewer than three after a turn in which another host contested the address.
 abbrev pub ContestsPartProbes : Type 0
 ContestsPartProbes = (site : Site) (addr : Net4) (now : ℕ) (later : List Entry) (e : Entry) (earlier : List Entry)
-    → site.managed.conf.noarp ≡ false → contests site addr.ip e ≡ true
+    → site.managed.conf.flags.noarp ≡ false → contests site addr.ip e ≡ true
     → probes_taken site addr.ip later < 3 → probes_taken site addr.ip earlier < 3
     → LeaseBasis site (V4 addr) now (later ++ e ∷ earlier) → ⊥
 
 -- Nor does an address have one within four seconds of the first probe for it.
 abbrev pub ProbesTakeFourSeconds : Type 0
 ProbesTakeFourSeconds =
-    (site : Site) (addr : Net4) (now first : ℕ) (past : List Entry) → site.managed.conf.noarp ≡ false
+    (site : Site) (addr : Net4) (now first : ℕ) (past : List Entry) → site.managed.conf.flags.noarp ≡ false
     → Always (λ e earlier. probe_taken site addr.ip (offers_at site e) ≡ true → first ≤ e.moment) past
     → Always (λ e earlier. e.moment < first + 4000) past → LeaseBasis site (V4 addr) now past → ⊥

@@ -9,6 +9,7 @@ use Rattle.duid_text.specs.DuidTexts.{link_layer_duid}
 use Rattle.world.specs.declared.wakes.Event.{Event}
 use Rattle.world.specs.declared.wakes.Event.TheVariants.{Frame, Quiet}
 use Rattle.settings.specs.declared.interfaces.Managed.{Managed}
+use Rattle.settings.specs.Flags.{no_flags}
 use Rattle.v4_client.specs.Saying.{discover, request}
 use Rattle.client_model.specs.Messages.{Said, Dhcp4, Arp}
 use Rattle.arp_acd.specs.declared.detection.ArpSay.TheVariants.{Probe, Announce}
@@ -31,7 +32,12 @@ granted = record { number = 0xc0a8_0107 }
 -- eth0, with `nodelay` and neither link-local address nor a limit in time
 abbrev pub interface : Managed
 interface =
-    record plain_eth0 { conf = record plain_eth0.conf { noipv4ll = true; nodelay = true; timeout = 0; reboot = 0 } }
+    record plain_eth0 {
+      conf = record plain_eth0.conf {
+        flags = record no_flags { noipv4ll = true; nodelay = true };
+        times = record { timeout = 0; reboot = 0 };
+      };
+    }
 
 -- the DUID of the host, made of the interface's hardware address
 abbrev pub duid : List ℕ

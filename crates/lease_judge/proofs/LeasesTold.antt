@@ -76,7 +76,7 @@ module _ (site : Site) (now : ℕ) (past : List Entry) where
         gives = ap (λ (n : Net4). V4 n) given;
         unexpired = q.1;
         probed = λ off. subst (λ (n : Net4). WasProbed site n.ip past) given
-            (probed site net.ip past (unless site.managed.conf.noarp (probed_in (calm_in site) site net.ip past) p.1 off));
+            (probed site net.ip past (unless site.managed.conf.flags.noarp (probed_in (calm_in site) site net.ip past) p.1 off));
       }
 
   judged : (net : Net) → is_leased site net now past ≡ true → IsJudged site net now past
@@ -89,7 +89,7 @@ module _ (site : Site) (now : ℕ) (past : List Entry) where
       both (grants (judge_in site past).granted net now) (is_probed site net.ip past)
       (ap (λ (kept : Option Granted). grants kept net now) it.stands
       ∙ both (is_same net net) (is_unexpired it.granted.opened.exchange.first it.granted.terms.lease now) (itself net) it.unexpired)
-      (if_asked site.managed.conf.noarp (probed_in (calm_in site) site net.ip past) (λ off. stands site net.ip past (it.probed off)))
+      (if_asked site.managed.conf.flags.noarp (probed_in (calm_in site) site net.ip past) (λ off. stands site net.ip past (it.probed off)))
 
   leased : (net : Net) (it : IsJudged site net now past) → is_leased site net now past ≡ true
   leased net it = subst (λ (n : Net). is_leased site n now past ≡ true) (sym it.gives) (given_is net it)

@@ -98,8 +98,8 @@ module _ (site : Site) (entry : Entry) (past : List told.Entry) where
 
 pub gives_so : (content : JudgeContent) (site : Site) (net : Net4) (now : ℕ) (past : List told.Entry) → FitsIp4 net.ip
     → Tells content (site_shown site) past
-    → (grants (judge_shown content.watch).granted net now && (site.managed.conf.noarp || probed_of content.probes net.ip))
+    → (grants (judge_shown content.watch).granted net now && (site.managed.conf.flags.noarp || probed_of content.probes net.ip))
     ≡ is_leased (site_shown site) (V4 net) now past
 gives_so content site net now past fits tells =
-    ap (λ (j : Judge). grants j.granted net now && (site.managed.conf.noarp || probed_of content.probes net.ip)) tells.judged
-    ∙ ap (λ (b : Bool). grants (judge_in (site_shown site) past).granted net now && (site.managed.conf.noarp || b)) (tells.probed.probed net.ip fits)
+    ap (λ (j : Judge). grants j.granted net now && (site.managed.conf.flags.noarp || probed_of content.probes net.ip)) tells.judged
+    ∙ ap (λ (b : Bool). grants (judge_in (site_shown site) past).granted net now && (site.managed.conf.flags.noarp || b)) (tells.probed.probed net.ip fits)

@@ -28,7 +28,7 @@ pub record IsJudged (site : Site) (net : Net) (now : ℕ) (past : List Entry) : 
   pub stands : (judge_in site past).granted ≡ Some granted
   pub gives : net ≡ V4 granted.terms.net
   pub unexpired : is_unexpired granted.opened.exchange.first granted.terms.lease now ≡ true
-  pub probed : site.managed.conf.noarp ≡ false
+  pub probed : site.managed.conf.flags.noarp ≡ false
       → Probed (Calm site) (λ first before. Unit {0}) site granted.terms.net.ip past
 
 -- An address has the basis of a lease exactly where that is so.

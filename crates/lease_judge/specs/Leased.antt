@@ -22,7 +22,7 @@ grants (Some granted) net now =
 
 -- whether it was probed, unless none is to be
 abbrev pub is_probed : Site → Ip4 → List Entry → Bool
-is_probed site addr past = site.managed.conf.noarp || probed_in (calm_in site) site addr past
+is_probed site addr past = site.managed.conf.flags.noarp || probed_in (calm_in site) site addr past
 
 abbrev pub is_leased : Site → Net → (now : ℕ) → List Entry → Bool
 is_leased site (V4 net) now past = grants (judge_in site past).granted net now && is_probed site net.ip past

@@ -226,7 +226,7 @@ impl LeaseJudge {
         match net {
             Net::V4(net) => {
                 self.watch.grants(net, now)
-                    && (site.managed.conf.noarp || self.probes.is_probed(net.ip))
+                    && (site.managed.conf.flags.noarp || self.probes.is_probed(net.ip))
             }
             Net::V6(_) => false,
         }

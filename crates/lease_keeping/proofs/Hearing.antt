@@ -151,7 +151,7 @@ module _ (site : Site) (answered_so : Answered) (wait : ℕ) (free : Type 0) (pa
     pub probed : IfSome (asked_at answered_so terms) (λ due. e.moment + probing site.managed.conf ≤ due)
     pub enough : IsBefore wait (asked_at answered_so terms) (needed_by answered_so terms)
 
-  module _ (settings : SettingsContent) (arrival : Arrival) (turn : Turn4) (now : turn.at ≡ e.moment) (noarp : turn.site.noarp ≡ site.managed.conf.noarp) where
+  module _ (settings : SettingsContent) (arrival : Arrival) (turn : Turn4) (now : turn.at ≡ e.moment) (noarp : turn.site.flags.noarp ≡ site.managed.conf.flags.noarp) where
     -- what the message says in an exchange that is asked
     pub record HeardWell (exchange : Exchange4) : Type 0 where
       pub granted : (terms : Terms4) → reply_in settings arrival exchange ≡ answer.Ack terms → Granted terms
@@ -162,7 +162,7 @@ module _ (site : Site) (answered_so : Answered) (wait : ℕ) (free : Type 0) (pa
     bound_so xid terms acd detected g =
         (detected, record { ahead = weaker (asked_at answered_so terms) e.moment (probing site.managed.conf) g.probed; enough = g.enough })
 
-    checking_so : (xid : ℕ) (terms : Terms4) (from : Origin4) (stands : Option Terms4) → free → turn.site.noarp ≡ false → Granted terms
+    checking_so : (xid : ℕ) (terms : Terms4) (from : Origin4) (stands : Option Terms4) → free → turn.site.flags.noarp ≡ false → Granted terms
         → KeepsSo (Checking xid terms from (detection.acd_begun turn.site.iface.index terms.net.ip turn.at turn.salt) stands)
     checking_so xid terms from stands it probes g =
         let long : IfSome (asked_at answered_so terms) (λ due. e.moment + 7000 ≤ due) =
@@ -177,7 +177,7 @@ module _ (site : Site) (answered_so : Answered) (wait : ℕ) (free : Type 0) (pa
     answering_so : (xid : ℕ) (from : Origin4) (stands : Option Terms4) (state : State4) (said : Answer4) → free → KeepsSo state
         → ((terms : Terms4) → said ≡ answer.Ack terms → Granted terms) → KeepsSo (answered turn xid from stands state said).state
     answering_so xid from stands state (answer.Ack terms) it on granted =
-        split turn.site.noarp (λ none. rw none (bound_so xid terms None tt (granted terms refl)))
+        split turn.site.flags.noarp (λ none. rw none (bound_so xid terms None tt (granted terms refl)))
         (λ probes. rw probes (checking_so xid terms from stands it probes (granted terms refl)))
     answering_so xid from stands state answer.Nak it on granted = it
     answering_so xid from stands state answer.Nothing it on granted = on
@@ -186,7 +186,7 @@ module _ (site : Site) (answered_so : Answered) (wait : ℕ) (free : Type 0) (pa
     -- none of these says anything
     answered_silent : (xid : ℕ) (from : Origin4) (stands : Option Terms4) (state : State4) (said : Answer4)
         → message_in (answered turn xid from stands state said) ≡ None
-    answered_silent xid from stands state (answer.Ack terms) = gated (λ (step : Step4). message_in step ≡ None) turn.site.noarp _ _ refl refl
+    answered_silent xid from stands state (answer.Ack terms) = gated (λ (step : Step4). message_in step ≡ None) turn.site.flags.noarp _ _ refl refl
     answered_silent xid from stands state answer.Nak = refl
     answered_silent xid from stands state answer.Nothing = refl
     answered_silent xid from stands state (answer.Offer address server) = refl

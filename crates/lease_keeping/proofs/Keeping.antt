@@ -88,7 +88,7 @@ begun : (turn : Turn4) (may_stand : Bool) (kept : Option Terms4) (site : Site) (
     → Keeps site answered wait (Unit {0}) past now (begins turn may_stand kept).state
 begun turn may_stand None site answered wait now past = tt
 begun turn may_stand (Some terms) site answered wait now past =
-    gated (λ (step : Step4). Keeps site answered wait (Unit {0}) past now step.state) (is_due (expiry terms) turn.at || (turn.site.reboot == 0)) _ _ tt tt
+    gated (λ (step : Step4). Keeps site answered wait (Unit {0}) past now step.state) (is_due (expiry terms) turn.at || (turn.site.times.reboot == 0)) _ _ tt tt
 
 module _ (b : Beginning) (o : Opening) (site : Site) (answered : Answered) (wait now : ℕ) (past : List Entry) where
   abbrev FreeSo : IfaceStep → Type 0

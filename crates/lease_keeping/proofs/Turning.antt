@@ -154,7 +154,7 @@ module _ (site : Site) (answered : Answered) (wait : ℕ) (free : Type 0) (e : E
 
     -- ---- an acceptable reply in the open exchange
 
-    module _ (settings : SettingsContent) (arrival : Arrival) (now : turn.at ≡ e.moment) (noarp : turn.site.noarp ≡ site.managed.conf.noarp)
+    module _ (settings : SettingsContent) (arrival : Arrival) (now : turn.at ≡ e.moment) (noarp : turn.site.flags.noarp ≡ site.managed.conf.flags.noarp)
         (replies : (exchange : Exchange4) → reply_at site exchange e ≡ reply_in settings arrival exchange) where
       reply_so : (exchange : Exchange4) (x : Numbered) (reply : Answer4) → x.exchange ≡ exchange → reply_in settings arrival exchange ≡ reply
           → reply_at site x.exchange e ≡ reply
@@ -249,7 +249,7 @@ module _ (site : Site) (answered : Answered) (wait : ℕ) (free : Type 0) (e : E
       let replies : (exchange : Exchange4) → reply_at site exchange e ≡ reply_in after_tick.settings arrival exchange =
       λ exchange. ap (λ (m : Option HeardMessage). reply_by (settings_of site.duid site.managed) exchange (option_map (arrival_at e.moment) m)) came
       ∙ ap (λ (s : SettingsContent). reply_in s arrival exchange) (sym amid.settings) in
-      let noarp : turn.site.noarp ≡ site.managed.conf.noarp = evidence.turn_noarp site after_tick amid.settings in
+      let noarp : turn.site.flags.noarp ≡ site.managed.conf.flags.noarp = evidence.turn_noarp site after_tick amid.settings in
       heard_so site answered wait free past e (message_in one) current k after_tick.settings arrival turn refl noarp (Lasts e.moment) grant one.state on
       (λ exchange h silent. well (shown.seen silent) shown.said after_tick.settings arrival refl noarp replies exchange h) tick
 

@@ -26,7 +26,7 @@ use Rattle.lease_progress.specs.Serving.{Answered, EachRequest, BroadcastAlone}
 
 -- eth0 of that example, on which addresses aren't probed
 abbrev pub unprobed : Managed
-unprobed = record interface { conf = record interface.conf { noarp = true } }
+unprobed = record interface { conf = record interface.conf { flags = record interface.conf.flags { noarp = true } } }
 
 abbrev pub own_macs : List Mac
 own_macs = client_mac ∷ []

@@ -164,7 +164,7 @@ module _ (own : List Mac) (b : Beginning) (o : Opening) (runs : runs_dhcp4 b.man
     module _ (quick : wait < least_asking) (anew : asks_again b.managed.conf o.at b.kept4 ≡ false) where
       enters : (kept : Option LeaseContent) → asks_again b.managed.conf o.at kept ≡ false → entered turn true (option_map terms_of kept) ≡ to_init turn
       enters None h = refl
-      enters (Some lease) h = rw (not_asked (lease.lease == INFINITE_LEASE) (lease.first + SECOND * lease.lease) o.at (b.managed.conf.reboot == 0) h) refl
+      enters (Some lease) h = rw (not_asked (lease.lease == INFINITE_LEASE) (lease.first + SECOND * lease.lease) o.at (b.managed.conf.times.reboot == 0) h) refl
 
       delay : (nodelay : Bool) (d : ℕ) → (if nodelay then 1 else 1000 + d % 9001) ≤ (if nodelay then 1 else 10000)
       delay true d = omega arith
@@ -183,7 +183,7 @@ module _ (own : List Mac) (b : Beginning) (o : Opening) (runs : runs_dhcp4 b.man
           (record {
             asks_long = quick;
             soon = soon o.at (first_delay turn.site o.salt) (first_wait b.managed.conf) (wait + (wait + probing b.managed.conf))
-                (delay b.managed.conf.nodelay (o.salt % 4294967296 + b.managed.spec.index.number));
+                (delay b.managed.conf.flags.nodelay (o.salt % 4294967296 + b.managed.spec.index.number));
             now_soon = now_too o.at (first_wait b.managed.conf) (wait + (wait + probing b.managed.conf));
           })
         where
@@ -193,12 +193,12 @@ module _ (own : List Mac) (b : Beginning) (o : Opening) (runs : runs_dhcp4 b.man
     -- ---- Rebooting
 
     module _ (lease : LeaseContent) (kept : b.kept4 ≡ Some lease) (unexpired : is_unexpired lease.first lease.lease (o.at + wait) ≡ true)
-        (quick : wait < SECOND * b.managed.conf.reboot) where
+        (quick : wait < SECOND * b.managed.conf.times.reboot) where
       abbrev exchange : Exchange4
       exchange = new_exchange turn lease.net.ip
 
       abbrev stop : ℕ
-      stop = o.at + SECOND * b.managed.conf.reboot
+      stop = o.at + SECOND * b.managed.conf.times.reboot
 
       abbrev stands : Option Terms4
       stands = stood turn true (terms_of lease)
@@ -209,8 +209,8 @@ module _ (own : List Mac) (b : Beginning) (o : Opening) (runs : runs_dhcp4 b.man
       time_enough : (reboot wait : ℕ) → wait < 1000 * reboot → (reboot == 0) ≡ false
       time_enough reboot wait h = grind (arith, nat_tests)
 
-      begins_so : (is_due (expiry (terms_of lease)) o.at || (b.managed.conf.reboot == 0)) ≡ false
-      begins_so = rw (not_due_before (expiry (terms_of lease)) o.at (o.at + wait) (onward o.at wait) lasts) (time_enough b.managed.conf.reboot wait quick)
+      begins_so : (is_due (expiry (terms_of lease)) o.at || (b.managed.conf.times.reboot == 0)) ≡ false
+      begins_so = rw (not_due_before (expiry (terms_of lease)) o.at (o.at + wait) (onward o.at wait) lasts) (time_enough b.managed.conf.times.reboot wait quick)
         where
           onward : (at wait : ℕ) → at ≤ at + wait
           onward at wait = omega arith
@@ -259,7 +259,7 @@ module _ (own : List Mac) (b : Beginning) (o : Opening) (runs : runs_dhcp4 b.man
               none = refl;
               lasts = next (o.at + wait);
             };
-            ends = ends_so o.at wait (SECOND * b.managed.conf.reboot) quick;
+            ends = ends_so o.at wait (SECOND * b.managed.conf.times.reboot) quick;
             stays = λ at less. choose (λ (st : Option Terms4). is_due (standing_until st) at ≡ false) _ (Some (terms_of lease)) None
                 (λ stands_on. not_due_before (expiry (terms_of lease)) at (o.at + wait) (most at (o.at + wait) less) lasts) (λ not_on. refl);
           })

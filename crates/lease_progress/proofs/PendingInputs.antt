@@ -243,7 +243,7 @@ module _ (site : Site) (answered : Answered) (wait end : ℕ) (f : Entry) (past 
   abbrev ShownBy : Step4 → Type 0
   ShownBy step = Shows site f past one step
 
-  longest : site.managed.conf.noarp ≡ false → probing site.managed.conf ≡ 7000
+  longest : site.managed.conf.flags.noarp ≡ false → probing site.managed.conf ≡ 7000
   longest probes = rw probes refl
 
   -- an acceptable ACK, while the client stands on a kept lease or not
@@ -264,7 +264,7 @@ module _ (site : Site) (answered : Answered) (wait end : ℕ) (f : Entry) (past 
     granted_out : (terms : Terms4) → reply_at site exchange f ≡ answer.Ack terms → ShownBy (row.granted turn xid terms origin stands)
         → Out (row.granted turn xid terms origin stands)
     granted_out terms is shown =
-        choose Out settings.site.noarp _ _
+        choose Out settings.site.flags.noarp _ _
         (λ unprobed. inr (record { in_time = within f.moment (probing site.managed.conf) end early; bound = refl; keeps = λ name fresh. refl }))
         (λ probed. inl (record {
           limit = f.moment + probing site.managed.conf;
@@ -277,7 +277,7 @@ module _ (site : Site) (answered : Answered) (wait end : ℕ) (f : Entry) (past 
         }))
       where
         silent : (row.granted turn xid terms origin stands).say ≡ None
-        silent = choose (λ (step : Step4). step.say ≡ None) settings.site.noarp _ _ (λ unprobed. refl) (λ probed. refl)
+        silent = choose (λ (step : Step4). step.say ≡ None) settings.site.flags.noarp _ _ (λ unprobed. refl) (λ probed. refl)
 
         drawn : (at d all : ℕ) → all ≡ 7000 → at + d % 1001 + 6000 ≤ at + all
         drawn at d all is = let small : d % 1001 < 1001 = below d in omega (arith, small, is)
@@ -285,10 +285,10 @@ module _ (site : Site) (answered : Answered) (wait end : ℕ) (f : Entry) (past 
             below : (n : ℕ) → n % 1001 < 1001
             below n = omega arith
 
-        soon : settings.site.noarp ≡ false → f.moment + draw_of salt settings.site.iface.index 1001 + 6000 ≤ f.moment + probing site.managed.conf
+        soon : settings.site.flags.noarp ≡ false → f.moment + draw_of salt settings.site.iface.index 1001 + 6000 ≤ f.moment + probing site.managed.conf
         soon probed = drawn f.moment (salt % 4294967296 + settings.site.iface.index.number) (probing site.managed.conf) (longest probed)
 
-        now_soon : settings.site.noarp ≡ false → f.moment + 6000 ≤ f.moment + probing site.managed.conf
+        now_soon : settings.site.flags.noarp ≡ false → f.moment + 6000 ≤ f.moment + probing site.managed.conf
         now_soon probed = let all : probing site.managed.conf ≡ 7000 = longest probed in omega (arith, all)
 
     answered_out : (state : State4) → (grants site exchange f ≡ false → Pending site answered wait end f.moment (f ∷ past) state) → (said : Answer4)

@@ -22,7 +22,7 @@ use Rattle.lease_progress.specs.Serving.{Answered, Serves}
 -- The longest that probing takes (RFC 5227, section 2.1.1): the wait before the first probe, the gaps from each to the
 -- next, and the quiet after the last. With `noarp` nothing is probed.
 abbrev pub probing : IfConf → ℕ
-probing conf = if conf.noarp then 0 else PROBE_WAIT + (PROBE_NUM - 1) * PROBE_MAX + ANNOUNCE_WAIT
+probing conf = if conf.flags.noarp then 0 else PROBE_WAIT + (PROBE_NUM - 1) * PROBE_MAX + ANNOUNCE_WAIT
 
 -- The carrier stays, nothing is given back, and no stop comes. The link takes the frames. An exchange that wasn't
 -- granted isn't refused (RFC 2131, section 3.2), and no other host contests an address that was granted. What is

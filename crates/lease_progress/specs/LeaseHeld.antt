@@ -27,7 +27,7 @@ pub record HeldBy (own : List Mac) (b : Beginning) (o : Opening) (mets : List Me
 
 -- the longest wait before the first DISCOVER (section 4.4.1)
 abbrev pub first_wait : IfConf → ℕ
-first_wait conf = if conf.nodelay then 1 else LEAST_DELAY + (DELAY_SPREAD - 1)
+first_wait conf = if conf.flags.nodelay then 1 else LEAST_DELAY + (DELAY_SPREAD - 1)
 
 -- an OFFER, an ACK, and the probing
 abbrev pub acquiring : IfConf → (wait : ℕ) → ℕ
@@ -50,7 +50,7 @@ least_asking =
 -- (section 4.4.2).
 abbrev pub asks_again : IfConf → (at : ℕ) → Option LeaseContent → Bool
 asks_again conf at None = false
-asks_again conf at (Some lease) = is_unexpired lease.first lease.lease at && not (conf.reboot == 0)
+asks_again conf at (Some lease) = is_unexpired lease.first lease.lease at && not (conf.times.reboot == 0)
 
 -- Where it doesn't, it holds a lease in time.
 abbrev pub Acquires : Type 0
@@ -64,6 +64,6 @@ abbrev pub Reacquires : Type 0
 Reacquires = (own : List Mac) (b : Beginning) (o : Opening) (mets : List Met) (answered : Answered) (wait : ℕ)
     (lease : LeaseContent) → GoesWell own b o mets answered wait → b.kept4 ≡ Some lease
     → is_unexpired lease.first lease.lease (o.at + wait) ≡ true
-    → wait < SECOND * b.managed.conf.reboot
+    → wait < SECOND * b.managed.conf.times.reboot
     → o.at + reacquiring b.managed.conf wait < now_in (shown o mets)
     → HeldBy own b o mets (o.at + reacquiring b.managed.conf wait)

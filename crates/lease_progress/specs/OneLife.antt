@@ -35,7 +35,7 @@ pub record OneLifeGoesWell : Type 0 where
 
 -- eth0 of that life, which asks for five seconds
 abbrev pub asks_five_seconds : Managed
-asks_five_seconds = record interface { conf = record interface.conf { reboot = 5 } }
+asks_five_seconds = record interface { conf = record interface.conf { times = record interface.conf.times { reboot = 5 } } }
 
 -- the lease of that life was kept
 abbrev pub with_kept : Beginning
@@ -69,5 +69,5 @@ pub record AgainLifeGoesWell : Type 0 where
   pub goes_well : GoesWell (client_mac ∷ []) with_kept reopening again_turns EachRequest one_second
   pub kept : with_kept.kept4 ≡ Some lease
   pub unexpired : is_unexpired lease.first lease.lease (reopening.at + one_second) ≡ true
-  pub longer : one_second < SECOND * asks_five_seconds.conf.reboot
+  pub longer : one_second < SECOND * asks_five_seconds.conf.times.reboot
   pub past_end : reopening.at + reacquiring asks_five_seconds.conf one_second < now_in (shown reopening again_turns)

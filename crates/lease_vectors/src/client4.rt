@@ -9,6 +9,7 @@ use arp_acd::ArpSay;
 use frame_link::ArpView;
 use machine::Machine;
 use net_types::{BadText, IfIndex, IfSpec, Ip4, Mac, NoMemory, append_text, read_name, u64_of};
+use settings::{Flags, Times};
 use std::alloc::Global;
 use v4_client::{
     Carrier, Client4, News4, Out4, Say4, Set4, Tell, ask4, carrier4, client4_new, heard_arp4,
@@ -48,20 +49,22 @@ fn settings(alloc: Global, iface: IfSpec, flags: &[u8], required: &[u8]) -> Resu
 {
     Ok(Set4 {
         iface,
+        flags: Flags {
+            nodelay: true,
+            noarp: is_among("noarp", flags),
+            persistent: is_among("persistent", flags),
+            ..Flags::none()
+        },
+        times: Times::usual(),
         ask: Ask4 {
             client_id: Vec::new(alloc),
             vendor: Vec::new(alloc),
             host: Vec::new(alloc),
             list: Vec::new(alloc),
         },
-        nodelay: true,
-        noarp: is_among("noarp", flags),
-        broadcast: false,
-        reboot: 5,
         required: required.to_vec(alloc)?,
         refused: Vec::new(alloc),
         blacklist: Vec::new(alloc),
-        persistent: is_among("persistent", flags),
     })
 }
 

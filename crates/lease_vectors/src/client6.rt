@@ -8,6 +8,7 @@ use crate::asking::{due_said, is_among, text};
 use lease6_text::{Lease6, read_lease6};
 use machine::Machine;
 use net_types::{IfIndex, IfSpec, Mac, NoMemory, append_text, read_ip6, read_name, u64_of};
+use settings::Flags;
 use std::alloc::Global;
 use v6_client::{
     Carrier6, Client6, IaAsk, News6, Out6, Set6, carrier6, client6_new, duplicate6, heard6, held6,
@@ -39,11 +40,14 @@ fn made(alloc: Global, persistent: bool, kept: Option<Lease6>) -> Result<Client6
                 bytes: [2, 0, 0, 0, 0, 1],
             },
         },
+        flags: Flags {
+            nodelay: true,
+            persistent,
+            ..Flags::none()
+        },
         duid,
         ias: Vec::from_slice(alloc, &[ask])?,
-        nodelay: true,
         rapid: false,
-        persistent,
     };
     Ok(client6_new(alloc, set, kept))
 }

@@ -152,7 +152,7 @@ module _ (turn : Turn4) where
 
   granted_fair : (old : State4) (xid : ℕ) (terms : Terms4) (origin : Origin4) (stands : Option Terms4) → IsFair old (granted turn xid terms origin stands)
   granted_fair old xid terms origin stands =
-      gated (IsFair old) turn.site.noarp (binds turn xid terms (bound_news origin) None) _ (binds_fair old xid terms origin None)
+      gated (IsFair old) turn.site.flags.noarp (binds turn xid terms (bound_news origin) None) _ (binds_fair old xid terms origin None)
       (record { says = λ before after. tt; aside = λ conf at link_local off held. cc })
 
   offered_fair : (state : State4) (xid secs : ℕ) (said : Answer4) → IsFair state (offered turn xid secs state said)
@@ -217,8 +217,8 @@ module _ (turn : Turn4) where
   begins_fair : (may_stand : Bool) (kept : Option Terms4) → IsFair Off (begins turn may_stand kept)
   begins_fair may_stand None = record { says = λ before after. tt; aside = λ conf at link_local off held. cc }
   begins_fair may_stand (Some terms) =
-      gated (λ (step : Step4). IsFair Off (record step { spends = true })) (is_due (expiry terms) turn.at || nat_eq turn.site.reboot 0) (to_init turn)
-      (rebooting turn (new_exchange turn terms.net.ip) Four (turn.at + SECOND * turn.site.reboot) (stood turn may_stand terms))
+      gated (λ (step : Step4). IsFair Off (record step { spends = true })) (is_due (expiry terms) turn.at || nat_eq turn.site.times.reboot 0) (to_init turn)
+      (rebooting turn (new_exchange turn terms.net.ip) Four (turn.at + SECOND * turn.site.times.reboot) (stood turn may_stand terms))
       (record { says = λ before after. tt; aside = λ conf at link_local off held. cc })
       (record { says = λ before after. ((refl, refl), tt); aside = λ conf at link_local off held. cc })
 

@@ -23,7 +23,7 @@ use Rattle.script_model.specs.IfaceSets.{is_in}
 use Rattle.client_model.specs.declared.interfaces.Iface.{Iface}
 use Rattle.client_model.specs.ClientSettings.{runs_dhcp4}
 use Rattle.client_model.specs.ClientSettings6.{runs_dhcp6}
-use Rattle.client_model.specs.Dhcp4Steps.{arms, arrival_at, begin_dhcp4, dhcp4_takes, holds_lease, rebind_dhcp4}
+use Rattle.client_model.specs.Dhcp4Steps.{arms, arrival_at, begin_dhcp4, begin_local, dhcp4_takes, holds_lease, rebind_dhcp4}
 use Rattle.client_model.specs.Dhcp6Steps.{begin_dhcp6, rebind_dhcp6}
 use Rattle.client_model.specs.IfaceSteps.{IfaceStep, index_of}
 use Rattle.client_model.specs.IfaceTurns.{arp_heard, hears_either, input_step, taken}
@@ -97,10 +97,11 @@ module _ (start : ClientContent) (Came : Arrival → List Event4 → Type 0) whe
     arming f l = gated (λ (step : IfaceStep). LivedIn step.iface) (holds_lease f) _ _ l l
 
     all_begin : (f : Iface) → LivedIn f → LivedIn (begins at salt f).iface
-    all_begin f l = begins6 _ (begun4 f l)
+    all_begin f l = begins6 (begin_local at (begin_dhcp4 at salt f).iface).iface (begun4 f l)
 
     all_rebind : (f : Iface) → LivedIn f → LivedIn (machines_rebind at salt f).iface
-    all_rebind f l = rebinds6 _ (arming _ (rebinds4 f l))
+    all_rebind f l =
+        rebinds6 (arms at (rebind_dhcp4 at salt f).iface).iface (arming (rebind_dhcp4 at salt f).iface (rebinds4 f l))
 
     all_drop : (f : Iface) → LivedIn f → LivedIn (machines_drop at salt f).iface
     all_drop f l = carries Down f.dhcp4 l

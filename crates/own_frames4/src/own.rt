@@ -43,7 +43,7 @@ fn speaker_of(managed: &Managed) -> Speaker
 {
     Speaker {
         mac: managed.spec.mac,
-        broadcast: managed.conf.broadcast,
+        broadcast: managed.conf.flags.broadcast,
     }
 }
 

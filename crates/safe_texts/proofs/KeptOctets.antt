@@ -42,7 +42,7 @@ use Rattle.v6_client.specs.Moves.{declining_now, given_up, kept_left, lapsed, le
 use Rattle.v6_client.specs.Runs.{Turned6, answered, carrier_turned, contested_turned, hears_turned, rebind_turned, release_turned, rested, stepped, tick_turned}
 use Rattle.v6_client.specs.Taking.{value_granted, values_granted}
 use Rattle.v6_client.specs.Ticks.{tick_row}
-use Rattle.v6_client.specs.declared.settings.IaAsk.{IaAsk}
+use Rattle.v6_client.specs.declared.setup.IaAsk.{IaAsk}
 use Rattle.v6_client.specs.declared.states.Carrier6.{Carrier6}
 use Rattle.v6_client.specs.declared.states.Carrier6.TheVariants.{Up, Down}
 use Rattle.v6_client.specs.declared.states.Cause6.{Cause6}

@@ -1,3 +1,5 @@
+pub mod Flags
+pub mod Times
 pub mod Dhcp4Settings
 pub mod Dhcp6Settings
 pub mod ResolverSettings

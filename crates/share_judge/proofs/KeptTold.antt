@@ -11,7 +11,7 @@ use Rattle.lease6_text.specs.Leases.{IaLeaseContent, Lease6Content}
 use Rattle.lease6_text.specs.LineParts.{is_same_kind}
 use Rattle.settings.specs.declared.dhcp6_conf.IaConf.{IaConf}
 use Rattle.settings.specs.declared.interfaces.Managed.{Managed}
-use Rattle.v6_client.specs.declared.settings.IaAsk.{IaAsk}
+use Rattle.v6_client.specs.declared.setup.IaAsk.{IaAsk}
 use Rattle.v6_client.specs.Items.{is_live}
 use Rattle.v6_client_laws.proofs.FirstItems.{behind_in, front_in}
 use Rattle.v6_client_laws.proofs.Given.{met}
@@ -32,10 +32,10 @@ use Rattle.share_judge.specs.Sharing.{shares_out}
 use Rattle.share_judge.proofs.Told.{based, given}
 
 pub share_so : (upstream : Site) (index : IfIndex) (net : Net) (now : ℕ) (past : List Entry) (kept : Kept6) → Tells6 kept upstream past
-    → (upstream.managed.conf.persistent && lease_shares upstream.managed index net now kept upstream.kept6)
+    → (upstream.managed.conf.flags.persistent && lease_shares upstream.managed index net now kept upstream.kept6)
     ≡ is_kept_share upstream index net now past
 share_so upstream index net now past kept t =
-    ap (λ (k : Kept6). upstream.managed.conf.persistent && lease_shares upstream.managed index net now k upstream.kept6) t
+    ap (λ (k : Kept6). upstream.managed.conf.flags.persistent && lease_shares upstream.managed index net now k upstream.kept6) t
 
 -- ---- IAs that are asked for
 
@@ -94,7 +94,7 @@ module _ (upstream : Site) (index : IfIndex) (net : Net) (past : List Entry) whe
   abbrev has_shares : Lease6Content → Bool
   has_shares lease = list_any shares_it lease.ias
 
-  given_by : managed.conf.persistent ≡ true → (lease : Lease6Content) → upstream.kept6 ≡ Some lease
+  given_by : managed.conf.flags.persistent ≡ true → (lease : Lease6Content) → upstream.kept6 ≡ Some lease
       → lease_shares managed index net now kept (Some lease) ≡ true → IsGiven KeptBasis6 upstream index net past
   given_by flag lease is h =
       let last = and_parts (is_some lease.origin && has_shares lease && kept.up) (is_asking6 now kept.asked) h in
@@ -137,14 +137,14 @@ module _ (upstream : Site) (index : IfIndex) (net : Net) (past : List Entry) whe
         shares = live.1;
       }
 
-  given_in : managed.conf.persistent ≡ true → (lease : Option Lease6Content) → upstream.kept6 ≡ lease
+  given_in : managed.conf.flags.persistent ≡ true → (lease : Option Lease6Content) → upstream.kept6 ≡ lease
       → lease_shares managed index net now kept lease ≡ true → IsGiven KeptBasis6 upstream index net past
   given_in flag None is h = absurd cc
   given_in flag (Some lease) is h = given_by flag lease is h
 
   share_told : is_kept_share upstream index net now past ≡ true → ShareBasisOf KeptBasis6 upstream index net past
   share_told h =
-      let parts = and_parts managed.conf.persistent (lease_shares managed index net now kept upstream.kept6) h in
+      let parts = and_parts managed.conf.flags.persistent (lease_shares managed index net now kept upstream.kept6) h in
       based KeptBasis6 upstream index net past (given_in parts.0 upstream.kept6 refl parts.1)
 
   same_prefix : (a b : ℕ) (n m : Net6) → a ≡ b → n ≡ m → shares_out managed index net (record { iaid = a; net = n }) ≡ true
@@ -174,7 +174,7 @@ module _ (upstream : Site) (index : IfIndex) (net : Net) (past : List Entry) whe
       has_any shares_it b.lease.ias item.ia item.among
       (and_from (asked_pd item.ia) (list_any (item_shares managed index net now item.ia.iaid) item.ia.items)
       (and_from (is_same_kind item.ia.kind Pd) (is_asked managed.conf.dhcp6.ias item.ia.iaid) (is_kind item.ia.kind Pd kind) asked) of_ia) in
-      and_from managed.conf.persistent (lease_shares managed index net now kept upstream.kept6) b.persistent
+      and_from managed.conf.flags.persistent (lease_shares managed index net now kept upstream.kept6) b.persistent
       (ap (λ (lease : Option Lease6Content). lease_shares managed index net now kept lease) b.kept
       ∙ and_from (is_some b.lease.origin && has_shares b.lease && kept.up) (is_asking6 now kept.asked)
       (and_from (is_some b.lease.origin && has_shares b.lease) kept.up

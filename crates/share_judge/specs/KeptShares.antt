@@ -47,5 +47,5 @@ lease_shares upstream index net now kept (Some lease) =
 
 abbrev pub is_kept_share : Site → IfIndex → Net → (now : ℕ) → List Entry → Bool
 is_kept_share upstream index net now past =
-    upstream.managed.conf.persistent
+    upstream.managed.conf.flags.persistent
     && lease_shares upstream.managed index net now (kept6_in upstream past) upstream.kept6

@@ -5,7 +5,7 @@ use Rattle.net_types.specs.declared.address.Net.{Net}
 use Rattle.net_types.specs.declared.address.Net6.{Net6}
 use Rattle.net_types.specs.declared.interface.IfIndex.{IfIndex}
 use Rattle.v6_options.specs.declared.ia.IaKind.TheVariants.{Pd}
-use Rattle.v6_client.specs.declared.settings.IaAsk.{IaAsk}
+use Rattle.v6_client.specs.declared.setup.IaAsk.{IaAsk}
 use Rattle.evidence_words.specs.Entries.{Entry}
 use Rattle.evidence_words.specs.IfaceLives.{now_in}
 use Rattle.evidence_words.specs.Inputs.{Site}

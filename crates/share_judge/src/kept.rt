@@ -130,6 +130,6 @@ pub fn kept_shares(kept: &Kept6, upstream: &Site, index: IfIndex, net: Net, now:
         → Tells6 kept.now (site_shown upstream.now) past
         → result ≡ is_kept_share (site_shown upstream.now) index net now past }
 {
-    upstream.managed.conf.persistent
+    upstream.managed.conf.flags.persistent
         && lease_shares(&upstream.managed, index, net, now, kept, &upstream.kept6)
 }

@@ -11,6 +11,7 @@ use Rattle.world.specs.LinkCalls.{Given}
 use Rattle.world.specs.StoreCalls.{store_holding}
 use Rattle.world.specs.StoreFails.{never_fails}
 use Rattle.settings.specs.declared.interfaces.Managed.{Managed}
+use Rattle.settings.specs.Flags.{no_flags}
 use Rattle.device_calls.specs.Worlds.{World}
 use Rattle.turn_model.specs.Lives.{OpeningMet, Met}
 use Rattle.turn_model.specs.Foretold.{opening_of}
@@ -26,7 +27,7 @@ second_mac = record { bytes = 2 ∷ 0 ∷ 0 ∷ 0 ∷ 0 ∷ 2 ∷ [] }
 abbrev pub second : Managed
 second = record plain_eth0 {
   spec = record { index = downstream; name = share.share.name; mac = second_mac };
-  conf = record plain_eth0.conf { nodhcp = true; noipv4ll = true };
+  conf = record plain_eth0.conf { flags = record no_flags { nodhcp = true; noipv4ll = true } };
 }
 
 abbrev pub managed : List Managed

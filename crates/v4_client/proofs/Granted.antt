@@ -161,7 +161,7 @@ answering : (turn : Turn4) (xid : ℕ) (origin : Origin4) (stands : Option Terms
 answering turn xid origin stands state answer.Nothing = stays turn state answer.Nothing
 answering turn xid origin stands state (answer.Offer address server) = stays turn state (answer.Offer address server)
 answering turn xid origin stands state (answer.Ack terms) =
-    gated (StepFollows state (answer.Ack terms)) turn.site.noarp _ _ (inr refl) (inr refl)
+    gated (StepFollows state (answer.Ack terms)) turn.site.flags.noarp _ _ (inr refl) (inr refl)
 answering turn xid origin stands state answer.Nak = tt
 
 renewing_said : (turn : Turn4) (xid : ℕ) (news : News4) (acd : Option Acd) (state : State4) (said : Answer4)
@@ -209,7 +209,7 @@ begun : (turn : Turn4) (may_stand : Bool) (kept : Option Terms4) (before : State
     → StepFollows before said (begins turn may_stand kept)
 begun turn may_stand None before said = tt
 begun turn may_stand (Some terms) before said =
-    gated (λ (step : Step4). StepFollows before said (record step { spends = true })) (is_due (expiry terms) turn.at || eqb turn.site.reboot 0) _ _
+    gated (λ (step : Step4). StepFollows before said (record step { spends = true })) (is_due (expiry terms) turn.at || eqb turn.site.times.reboot 0) _ _
     tt tt
 
 carries : (turn : Turn4) (may_stand : Bool) (kept : Option Terms4) (state : State4) (said : Answer4)

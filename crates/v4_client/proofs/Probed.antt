@@ -213,7 +213,7 @@ offering turn xid began secs backoff due (answer.Ack terms) anew probes = record
 offering turn xid began secs backoff due answer.Nak anew probes = record { after = tt; binds = tt }
 
 answering_said : (turn : Turn4) (xid : ℕ) (origin : Origin4) (stands : Option Terms4) (state : State4) (said : Answer4) (probes : Ip4 → ℕ)
-    → turn.site.noarp ≡ false → bound_terms state ≡ None → ((counts : Ip4 → ℕ) → IsProbed state counts)
+    → turn.site.flags.noarp ≡ false → bound_terms state ≡ None → ((counts : Ip4 → ℕ) → IsProbed state counts)
     → StepProbed state (is_grant said) probes (answered turn xid origin stands state said)
 answering_said turn xid origin stands state answer.Nothing probes noarp none free =
     record { after = free _; binds = same_held (bound_terms state) probes }
@@ -235,7 +235,7 @@ renewing_said turn held xid news acd state (answer.Ack terms) probes is free =
 renewing_said turn held xid news acd state answer.Nak probes is free = record { after = tt; binds = tt }
 
 hears : (settings : SettingsContent) (arrival : Arrival) (turn : Turn4) (state : State4) (probes : Ip4 → ℕ)
-    → turn.site.noarp ≡ false → IsProbed state probes
+    → turn.site.flags.noarp ≡ false → IsProbed state probes
     → StepProbed state (is_grant (answer_of settings arrival state)) probes (heard_row turn (answer_of settings arrival state) state)
 hears settings arrival turn Off probes noarp probed = stays turn Off probes tt
 hears settings arrival turn (Init due) probes noarp probed = stays turn (Init due) probes tt
@@ -283,7 +283,7 @@ hears_arp own turn arp (Rebinding exchange terms acd due) probes probed =
 begun : (turn : Turn4) (may_stand : Bool) (kept : Option Terms4) (probes : Ip4 → ℕ) → StepProbed Off false probes (begins turn may_stand kept)
 begun turn may_stand None probes = record { after = tt; binds = tt }
 begun turn may_stand (Some terms) probes =
-    gated (λ (step : Step4). StepProbed Off false probes (record step { spends = true })) (is_due (expiry terms) turn.at || eqb turn.site.reboot 0) _ _
+    gated (λ (step : Step4). StepProbed Off false probes (record step { spends = true })) (is_due (expiry terms) turn.at || eqb turn.site.times.reboot 0) _ _
     (record { after = tt; binds = tt }) (record { after = tt; binds = tt })
 
 carries : (turn : Turn4) (may_stand : Bool) (kept : Option Terms4) (state : State4) (probes : Ip4 → ℕ) → IsProbed state probes
@@ -352,7 +352,7 @@ unsends turn (Rebinding exchange terms acd due) probes probed = record { after =
 
 -- ---- events
 
-event_probed : (event : Event4) (c : ClientContent) (probes : Ip4 → ℕ) → c.settings.site.noarp ≡ false → IsProbed c.state probes
+event_probed : (event : Event4) (c : ClientContent) (probes : Ip4 → ℕ) → c.settings.site.flags.noarp ≡ false → IsProbed c.state probes
     → StepProbed c.state (is_anew event (answer_in event c)) probes (step_of event c)
 event_probed (Tick at salt) c probes noarp probed =
     gated (StepProbed c.state false probes) (is_due (due_of c.state) (moment_of at)) _ _
@@ -374,13 +374,13 @@ settings_stay (Carries carrier at salt) c = refl
 settings_stay (Release tell at salt) c = refl
 settings_stay (Rebind at salt) c = refl
 
-still : (start : ClientContent) (past : List Event4) → start.settings.site.noarp ≡ false
-    → (client_after start past).settings.site.noarp ≡ false
+still : (start : ClientContent) (past : List Event4) → start.settings.site.flags.noarp ≡ false
+    → (client_after start past).settings.site.flags.noarp ≡ false
 still start [] noarp = noarp
 still start (event ∷ past) noarp =
-    ap (λ (s : SettingsContent). s.site.noarp) (settings_stay event (client_after start past)) ∙ still start past noarp
+    ap (λ (s : SettingsContent). s.site.flags.noarp) (settings_stay event (client_after start past)) ∙ still start past noarp
 
-all_probed : (start : ClientContent) (past : List Event4) → start.state ≡ Off → start.settings.site.noarp ≡ false
+all_probed : (start : ClientContent) (past : List Event4) → start.state ≡ Off → start.settings.site.flags.noarp ≡ false
     → IsProbed (client_after start past).state (λ (a : Ip4). probes_since start a past)
 all_probed start [] off noarp = subst (λ (s : State4). IsProbed s (λ (a : Ip4). 0)) (sym off) tt
 all_probed start (event ∷ past) off noarp =

@@ -28,7 +28,7 @@ answered_room : (turn : Turn4) (xid : ℕ) (origin : Origin4) (stands : Option T
 answered_room turn xid origin stands state answer.Nothing held = refl
 answered_room turn xid origin stands state (answer.Offer address server) held = refl
 answered_room turn xid origin stands state (answer.Ack terms) held =
-    gated (λ (step : Step4). is_copied step held ≡ false) turn.site.noarp _ _ refl refl
+    gated (λ (step : Step4). is_copied step held ≡ false) turn.site.flags.noarp _ _ refl refl
 answered_room turn xid origin stands state answer.Nak held = refl
 
 renewed_room : (turn : Turn4) (xid : ℕ) (news : News4) (acd : Option Acd) (state : State4) (said : Answer4) (held : Bool)

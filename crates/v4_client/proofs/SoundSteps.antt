@@ -264,7 +264,7 @@ module _ (kept : Option Terms4) where
   granted_sound : (turn : Turn4) (before : State4) (xid : ℕ) (terms : Terms4) (origin : Origin4) (stands : Option Terms4)
       → held_terms before ≡ stands → FitsTerms terms → IfSome stands FitsTerms → IsSoundStep kept before (granted turn xid terms origin stands)
   granted_sound turn before xid terms origin stands held fits holds =
-      gated (IsSoundStep kept before) turn.site.noarp _ _ (binds_sound turn before xid terms (bound_news origin) None fits)
+      gated (IsSoundStep kept before) turn.site.flags.noarp _ _ (binds_sound turn before xid terms (bound_news origin) None fits)
       (record { state = record { checks = fits; holds = holds }; keep = tt; held = keeps_same (held_terms before) stands held })
 
   offered_sound : (turn : Turn4) (xid secs : ℕ) (state : State4) (answer : Answer4) → IsMoment turn.at → FitsState state
@@ -340,7 +340,7 @@ module _ (kept : Option Terms4) where
     where
       asks : (terms : Terms4) → kept ≡ Some terms → FitsTerms terms → (stands : Option Terms4) → IfSome stands FitsTerms
           → StaysHeld kept (held_terms before) stands
-          → IsSoundBegin before (rebooting turn (new_exchange turn terms.net.ip) Four (turn.at + SECOND * turn.site.reboot) stands)
+          → IsSoundBegin before (rebooting turn (new_exchange turn terms.net.ip) Four (turn.at + SECOND * turn.site.times.reboot) stands)
       asks terms is good stands holds held = record {
         state = record { asks = record { address = good.address; first = at }; wakes = omega arith; holds = holds };
         keep = tt;
@@ -350,11 +350,11 @@ module _ (kept : Option Terms4) where
       from : (known : Option Terms4) → kept ≡ known → FitsBegin known → IsSoundBegin before (entered turn may_stand known)
       from None is good = record { state = tt; keep = tt; held = tt }
       from (Some terms) is good =
-          gated (IsSoundBegin before) (is_due (expiry terms) turn.at || eqb turn.site.reboot 0) _ _ (record { state = tt; keep = tt; held = tt })
+          gated (IsSoundBegin before) (is_due (expiry terms) turn.at || eqb turn.site.times.reboot 0) _ _ (record { state = tt; keep = tt; held = tt })
           (gated
           (λ (stands : Option Terms4). IsSoundBegin before
-          (rebooting turn (new_exchange turn terms.net.ip) Four (turn.at + SECOND * turn.site.reboot) stands))
-          (turn.site.persistent && may_stand && is_some terms.origin) (Some terms) None (asks terms is good (Some terms) good (inr is))
+          (rebooting turn (new_exchange turn terms.net.ip) Four (turn.at + SECOND * turn.site.times.reboot) stands))
+          (turn.site.flags.persistent && may_stand && is_some terms.origin) (Some terms) None (asks terms is good (Some terms) good (inr is))
           (asks terms is good None tt tt))
 
   pub begin_sound : (turn : Turn4) (may_stand : Bool) (state : State4) → IsMoment turn.at → FitsBegin kept → FitsState state

@@ -152,7 +152,7 @@ answering : (turn : Turn4) (xid : ℕ) (origin : Origin4) (stands : Option Terms
     → StepKeeps stands (answered turn xid origin stands state said)
 answering turn xid origin stands state answer.Nothing is = rw is (same stands)
 answering turn xid origin stands state (answer.Offer address server) is = rw is (same stands)
-answering turn xid origin stands state (answer.Ack terms) is = gated (StepKeeps stands) turn.site.noarp _ _ tt (same stands)
+answering turn xid origin stands state (answer.Ack terms) is = gated (StepKeeps stands) turn.site.flags.noarp _ _ tt (same stands)
 answering turn xid origin stands state answer.Nak is = tt
 
 renewing_said : (turn : Turn4) (xid : ℕ) (news : News4) (acd : Option Acd) (state : State4) (said : Answer4) → stands_in state ≡ None
@@ -204,7 +204,7 @@ begun : (turn : Turn4) (may_stand : Bool) (kept : Option Terms4) → StepKeeps (
 begun turn may_stand None = tt
 begun turn may_stand (Some terms) =
     gated (λ (step : Step4). StepKeeps (stood turn may_stand terms) (record step { spends = true }))
-    (is_due (expiry terms) turn.at || eqb turn.site.reboot 0) _ _ tt (same (stood turn may_stand terms))
+    (is_due (expiry terms) turn.at || eqb turn.site.times.reboot 0) _ _ tt (same (stood turn may_stand terms))
 
 -- without the chance it stands on none
 unstood : (turn : Turn4) (persistent confirmed : Bool) (terms : Terms4)
@@ -215,7 +215,7 @@ unstood turn false confirmed terms = refl
 anew : (turn : Turn4) (kept : Option Terms4) → StepKeeps None (begins turn false kept)
 anew turn None = tt
 anew turn (Some terms) =
-    let none : stood turn false terms ≡ None = unstood turn turn.site.persistent (is_some terms.origin) terms in
+    let none : stood turn false terms ≡ None = unstood turn turn.site.flags.persistent (is_some terms.origin) terms in
     subst (λ (stands : Option Terms4). StepKeeps stands (begins turn false (Some terms))) none (begun turn false (Some terms))
 
 abbrev stood_before : Turn4 → (may_stand : Bool) → (kept : Option Terms4) → State4 → Option Terms4
@@ -374,9 +374,9 @@ IsConfirmed None = Unit {0}
 IsConfirmed (Some terms) = is_some terms.origin ≡ true
 
 chances : (turn : Turn4) (may_stand : Bool) (kept : Option Terms4) (terms : Terms4) → chance turn may_stand kept ≡ Some terms
-    → Chances turn.site.persistent may_stand kept terms
+    → Chances turn.site.flags.persistent may_stand kept terms
 chances turn may_stand None terms e = absurd (some_of terms e)
-chances turn may_stand (Some other) terms e = by turn.site.persistent may_stand (is_some other.origin) refl e
+chances turn may_stand (Some other) terms e = by turn.site.flags.persistent may_stand (is_some other.origin) refl e
   where
     by : (persistent may confirmed : Bool) → is_some other.origin ≡ confirmed
         → (if persistent && may && confirmed then Some other else None) ≡ Some terms → Chances persistent may (Some other) terms
@@ -461,8 +461,8 @@ module _ (start : ClientContent) (event : Event4) (past : List Event4) (knows : 
         let was = knows.fresh good.may in
         record {
           persistent =
-              ap (λ (s : SettingsContent). s.site.persistent) (sym (its_settings start past))
-              ∙ (ap (λ s. s.persistent) (sym site) ∙ good.wished);
+              ap (λ (s : SettingsContent). s.site.flags.persistent) (sym (its_settings start past))
+              ∙ (ap (λ s. s.flags.persistent) (sym site) ∙ good.wished);
           kept = ap (λ (k : Option LeaseContent). option_map terms_of k) (sym was.kept) ∙ good.takes;
           confirmed = good.confirmed;
           still_kept = after_kept start event past keeps was.kept;

@@ -8,7 +8,7 @@ use Rattle.lease_text.specs.declared.lease.Value.{Value}
 use Rattle.lease_text.specs.Leases.{ValueContent, LeaseContent, lease_content, terms_of, values_content}
 use Rattle.v4_client.specs.declared.client.Out4.{Out4}
 use Rattle.v4_client.specs.declared.leases.Leases4.{Leases4}
-use Rattle.v4_client.specs.declared.settings.Set4.{Set4}
+use Rattle.v4_client.specs.declared.setup.Set4.{Set4}
 use Rattle.v4_client.specs.declared.states.News4.{News4}
 use Rattle.v4_client.specs.declared.states.Say4.{Say4}
 use Rattle.v4_client.specs.declared.states.State4.{State4}

@@ -30,7 +30,7 @@ offered turn xid secs state answer.Nak = rests turn state
 -- The address is bound at once, or checked first, while the client stands on its kept lease or not.
 abbrev pub granted : Turn4 → (xid : ℕ) → Terms4 → Origin4 → (stands : Option Terms4) → Step4
 granted turn xid terms origin stands =
-    if turn.site.noarp
+    if turn.site.flags.noarp
     then binds turn xid terms (bound_news origin) None
     else rests turn
     (Checking xid terms origin (detection.acd_begun turn.site.iface.index terms.net.ip turn.at turn.salt) stands)

@@ -22,16 +22,16 @@ use Rattle.v4_client.specs.Steps.{rests, goes_to, stops, to_init, rebooting, new
 -- confirmed it.
 abbrev pub stood : Turn4 → (may_stand : Bool) → Terms4 → Option Terms4
 stood turn may_stand terms =
-    if turn.site.persistent && may_stand && is_some terms.origin then Some terms else None
+    if turn.site.flags.persistent && may_stand && is_some terms.origin then Some terms else None
 
 -- The begin, with the terms of the kept lease: where there is one that isn't expired, and time to ask for it, REQUEST
 -- for its address (RFC 2131, section 4.4.2). Else Init.
 abbrev pub entered : Turn4 → (may_stand : Bool) → Option Terms4 → Step4
 entered turn may_stand None = to_init turn
 entered turn may_stand (Some terms) =
-    if is_due (expiry terms) turn.at || (turn.site.reboot == 0)
+    if is_due (expiry terms) turn.at || (turn.site.times.reboot == 0)
     then to_init turn
-    else rebooting turn (new_exchange turn terms.net.ip) Four (turn.at + SECOND * turn.site.reboot)
+    else rebooting turn (new_exchange turn terms.net.ip) Four (turn.at + SECOND * turn.site.times.reboot)
     (stood turn may_stand terms)
 
 -- At the first one alone the client may stand on its kept lease.

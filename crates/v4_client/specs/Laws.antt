@@ -88,7 +88,7 @@ pub record Stands (start : ClientContent) (event : Event4) (earlier : List Event
 -- It stands on the lease with which it was made, which an ACK of this interface has confirmed, as it is to, and did
 -- nothing else since then than to ask for it and to check what it was granted.
 pub record StandsOnKept (start : ClientContent) (past : List Event4) (terms : Terms4) : Type 0 where
-  pub persistent : start.settings.site.persistent ≡ true
+  pub persistent : start.settings.site.flags.persistent ≡ true
   pub kept : kept_terms start ≡ Some terms
   pub confirmed : is_some terms.origin ≡ true
   pub still_kept : (client_after start past).kept ≡ start.kept

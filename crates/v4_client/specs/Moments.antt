@@ -6,7 +6,7 @@ use Rattle.lease_text.specs.declared.lease.TheConstants.{INFINITE_LEASE}
 use Rattle.v4_client.specs.declared.moments.Backoff.{Backoff}
 use Rattle.v4_client.specs.declared.moments.Backoff.TheVariants.{Four, Eight, Sixteen, ThirtyTwo, SixtyFour}
 use Rattle.v4_client.specs.declared.moments.TheConstants.{SECOND, WAIT_SPREAD, LEAST_DELAY, DELAY_SPREAD, LEAST_RENEWAL_WAIT, SECS_LIMIT}
-use Rattle.v4_client.specs.declared.settings.Site4.{Site4}
+use Rattle.v4_client.specs.declared.setup.Site4.{Site4}
 
 abbrev pub seconds : Backoff → ℕ
 seconds Four = 4
@@ -29,7 +29,7 @@ wait site salt backoff = SECOND * (seconds backoff - 1) + draw_of salt site.ifac
 
 -- one second to ten by chance, or a millisecond (section 4.4.1)
 abbrev pub first_delay : Site4 → (salt : ℕ) → ℕ
-first_delay site salt = if site.nodelay then 1 else LEAST_DELAY + draw_of salt site.iface.index DELAY_SPREAD
+first_delay site salt = if site.flags.nodelay then 1 else LEAST_DELAY + draw_of salt site.iface.index DELAY_SPREAD
 
 -- the whole seconds since a moment, as far as the field of a message goes
 abbrev pub secs_since : (began at : ℕ) → ℕ

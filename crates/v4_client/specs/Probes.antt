@@ -42,6 +42,6 @@ probes_since start address (event ∷ past) =
 -- address. All of them were said since the ACK that granted it, and since the last send that failed.
 abbrev pub ProbesFirst : Type 0
 ProbesFirst = (start : ClientContent) (past : List Event4) (event : Event4) (terms : Terms4) → start.state ≡ Off
-    → start.settings.site.noarp ≡ false → bound_terms (client_after start past).state ≡ None
+    → start.settings.site.flags.noarp ≡ false → bound_terms (client_after start past).state ≡ None
     → bound_terms (after_event event (client_after start past)).state ≡ Some terms
     → probes_since start terms.net.ip past ≡ 3

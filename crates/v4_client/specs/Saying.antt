@@ -8,7 +8,7 @@ use Rattle.net_types.specs.declared.address.Ip4.{Ip4}
 use Rattle.v4_frames.specs.declared.sent.Sent4.{Sent4}
 use Rattle.v4_frames.specs.declared.sent.TheConstants.{EVERY_MAC}
 use Rattle.v4_frames.specs.declared.speaker.TheConstants.{BROADCAST_FLAG}
-use Rattle.v4_client.specs.declared.settings.Site4.{Site4}
+use Rattle.v4_client.specs.declared.setup.Site4.{Site4}
 use Rattle.v4_client.specs.declared.states.Exchange4.{Exchange4}
 use Rattle.v4_client.specs.declared.states.Say4.{Say4}
 use Rattle.v4_client.specs.declared.states.To4.TheVariants.{Everyone, Server}
@@ -26,7 +26,7 @@ sent_of say = record { ends = say.ends; said = say.said }
 
 -- servers are asked to answer by broadcast (section 4.1)
 abbrev pub flags : Site4 → ℕ
-flags site = if site.broadcast then BROADCAST_FLAG else 0
+flags site = if site.flags.broadcast then BROADCAST_FLAG else 0
 
 -- a message without what its kind adds
 abbrev pub base : Site4 → Kind4 → (xid : ℕ) → Said4

@@ -2,8 +2,8 @@
 use Rattle.std.specs.Prelude.{ℕ, List}
 use Rattle.net_types.specs.declared.address.Net4.{Net4}
 use Rattle.v4_message.specs.Requests.{AskContent, ask_content}
-use Rattle.v4_client.specs.declared.settings.Set4.{Set4}
-use Rattle.v4_client.specs.declared.settings.Site4.{Site4}
+use Rattle.v4_client.specs.declared.setup.Set4.{Set4}
+use Rattle.v4_client.specs.declared.setup.Site4.{Site4}
 
 pub record SettingsContent : Type 0 where
   pub site : Site4
@@ -13,14 +13,7 @@ pub record SettingsContent : Type 0 where
   pub blacklist : List Net4
 
 abbrev pub site_of : Set4 → Site4
-site_of set = record {
-  iface = set.iface;
-  nodelay = set.nodelay;
-  noarp = set.noarp;
-  broadcast = set.broadcast;
-  reboot = set.reboot;
-  persistent = set.persistent;
-}
+site_of set = record { iface = set.iface; flags = set.flags; times = set.times }
 
 abbrev pub settings_content : Set4 → SettingsContent
 settings_content set = record {

@@ -9,7 +9,7 @@ ghost use Rattle.v4_client.specs.Sound.{FitsState};
 
 use crate::moments::SECOND;
 use crate::options::{are_there, terms_granted};
-use crate::settings::Set4;
+use crate::setup::Set4;
 use crate::states::{Answer4, Exchange4, State4};
 use lease_text::{INFINITE_LEASE, is_host_address};
 use net_types::{Ip4, Mac};

@@ -25,7 +25,7 @@ use crate::hearing::{arp_row, heard_row};
 use crate::inputs::{begin_row, off_row, rebind_row, release_row, unsent_row};
 use crate::leases::{Leases4, is_held};
 use crate::options::kept_values;
-use crate::settings::{Set4, Site4};
+use crate::setup::{Set4, Site4};
 use crate::states::{Answer4, Carrier, News4, Say4, State4, Step4, Tell, Turn4};
 use crate::ticking::{due_of, tick_row};
 use arp_acd::ArpSay;
@@ -84,11 +84,8 @@ impl Client4 {
         Turn4 {
             site: Site4 {
                 iface: self.set.iface,
-                nodelay: self.set.nodelay,
-                noarp: self.set.noarp,
-                broadcast: self.set.broadcast,
-                reboot: self.set.reboot,
-                persistent: self.set.persistent,
+                flags: self.set.flags,
+                times: self.set.times,
             },
             last: self.last,
             at,

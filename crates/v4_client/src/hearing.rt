@@ -38,7 +38,7 @@ fn granted(turn: Turn4, xid: u32, terms: Terms4, origin: Origin4, stands: Option
     requires { IsMoment turn.at }
     ensures { result ≡ hearing.granted turn xid terms origin stands }
 {
-    if turn.site.noarp {
+    if turn.site.flags.noarp {
         return binds(turn, xid, terms, bound_news(origin), None);
     }
     let acd = acd_begin(turn.site.iface.index, terms.net.ip, turn.at, turn.salt);

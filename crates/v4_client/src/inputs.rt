@@ -17,7 +17,7 @@ use machine::has_come;
 fn stood(turn: Turn4, may_stand: bool, terms: Terms4) -> Option<Terms4>
     ensures { result ≡ inputs.stood turn may_stand terms }
 {
-    if turn.site.persistent && may_stand && terms.origin.is_some() {
+    if turn.site.flags.persistent && may_stand && terms.origin.is_some() {
         Some(terms)
     } else {
         None
@@ -34,11 +34,11 @@ fn entered(turn: Turn4, may_stand: bool, kept: Option<Terms4>) -> Step4
         return to_init(turn);
     };
     // it is expired, or there is no time to ask for it
-    if has_come(expiry(terms), turn.at) || turn.site.reboot == 0 {
+    if has_come(expiry(terms), turn.at) || turn.site.times.reboot == 0 {
         return to_init(turn);
     }
     // REQUEST for its address
-    let end = turn.at + SECOND * u64::from(turn.site.reboot);
+    let end = turn.at + SECOND * u64::from(turn.site.times.reboot);
     rebooting(
         turn,
         new_exchange(turn, terms.net.ip),

@@ -13,7 +13,7 @@ mod leases;
 mod moments;
 mod options;
 mod saying;
-mod settings;
+mod setup;
 mod states;
 mod steps;
 mod ticking;
@@ -29,7 +29,7 @@ pub use laws::{
     stays_sound, wakes_in_time,
 };
 pub use moments::Backoff;
-pub use settings::{Set4, Site4};
+pub use setup::{Set4, Site4};
 pub use states::{
     Answer4, Carrier, Exchange4, Keep4, News4, Origin4, Say4, State4, Step4, Tell, To4, Turn4,
 };

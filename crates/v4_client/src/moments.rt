@@ -4,7 +4,7 @@ ghost use Rattle.std.specs.Prelude.{◌≡◌, ◌≤◌, IfSome};
 ghost use Rattle.net_types.specs.Moments.{IsMoment};
 ghost use Rattle.v4_client.specs.Moments.{again_at, doubled, earlier, expiry, first_delay, moment_in, rebinding_at, renewal_at, seconds, secs_since, standing_until, wait};
 
-use crate::settings::Site4;
+use crate::setup::Site4;
 use lease_text::{INFINITE_LEASE, Terms4};
 use machine::draw;
 
@@ -77,7 +77,7 @@ pub(crate) fn first_delay(site: Site4, salt: u64) -> u64
     ensures value { result ≡ first_delay site salt }
     ensures most { result ≤ 10000 }
 {
-    if site.nodelay {
+    if site.flags.nodelay {
         1
     } else {
         LEAST_DELAY + u64::from(draw(salt, site.iface.index, DELAY_SPREAD))

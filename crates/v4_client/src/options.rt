@@ -10,7 +10,7 @@ ghost use Rattle.v4_client.specs.Messages.{are_there, arrival_of, is_among, is_t
 ghost use Rattle.v4_client.specs.Settings.{settings_content};
 
 use crate::answers::Arrival4;
-use crate::settings::Set4;
+use crate::setup::Set4;
 use crate::states::Exchange4;
 use arrayvec::ArrayVec;
 use lease_text::{INFINITE_LEASE, KEPT_CODES, Origin, Terms4, VALUE_LIMIT, Value, is_well_formed};

@@ -3,7 +3,7 @@
 ghost use Rattle.std.specs.Prelude.{◌≡◌};
 ghost use Rattle.v4_client.specs.Saying.{base, decline, discover, flags, release, rebinding_request, renewing_request, request, sent_of, to_everyone, to_server};
 
-use crate::settings::Site4;
+use crate::setup::Site4;
 use crate::states::{Exchange4, Say4, To4};
 use lease_text::Terms4;
 use net_types::Ip4;
@@ -26,7 +26,11 @@ impl Say4 {
 fn flags(site: Site4) -> u16
     ensures { result ≡ flags site }
 {
-    if site.broadcast { BROADCAST_FLAG } else { 0 }
+    if site.flags.broadcast {
+        BROADCAST_FLAG
+    } else {
+        0
+    }
 }
 
 /// A message without what its kind adds.

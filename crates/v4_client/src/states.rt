@@ -1,7 +1,7 @@
 //! The states of a client, and what a step from one to another says.
 
 use crate::moments::Backoff;
-use crate::settings::Site4;
+use crate::setup::Site4;
 use arp_acd::{Acd, ArpSay};
 use lease_text::Terms4;
 use net_types::Ip4;

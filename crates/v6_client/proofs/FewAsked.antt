@@ -9,7 +9,7 @@ use Rattle.v6_message.specs.declared.kind.Kind6.TheVariants as kind
 use Rattle.v6_message.specs.declared.said.IaAsked.{IaAsked}
 use Rattle.v6_message.specs.Requests.{AskedContent, asked_content}
 use Rattle.lease6_text.specs.Leases.{Lease6Content}
-use Rattle.v6_client.specs.declared.settings.IaAsk.{IaAsk}
+use Rattle.v6_client.specs.declared.setup.IaAsk.{IaAsk}
 use Rattle.v6_client.specs.declared.states.Scope6.{Scope6}
 use Rattle.v6_client.specs.declared.states.Scope6.TheVariants as scope
 use Rattle.v6_client.specs.Asking.{ia_asked, ia_declined, ia_released, ia_solicited, named_with, nets_gone, nets_in}

@@ -11,7 +11,7 @@ use Rattle.lease6_text.specs.Bounds.{FitsIa, FitsIas, FitsItem, FitsLease6, Fits
 use Rattle.lease6_text.specs.Leases.{IaLeaseContent, Lease6Content}
 use Rattle.lease6_text.specs.ValueForms.{is_kept6, is_well_formed6}
 use Rattle.v6_client.specs.declared.renewing.Spans6.{Spans6}
-use Rattle.v6_client.specs.declared.settings.IaAsk.{IaAsk}
+use Rattle.v6_client.specs.declared.setup.IaAsk.{IaAsk}
 use Rattle.v6_client.specs.declared.states.Cause6.{Cause6}
 use Rattle.v6_client.specs.declared.states.Cause6.TheVariants.{Lapse}
 use Rattle.v6_client.specs.declared.states.Parting6.{Parting6}

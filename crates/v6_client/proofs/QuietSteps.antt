@@ -111,9 +111,9 @@ begun_tells : (stands : Bool) (c new : ClientContent) (at salt : ℕ) (out : Out
     → IsStep6 (begin_row (turn_of at salt c) stands (parting_begun at c) c.state) None (pruned at stands c) new out → TellsChange c new out
 begun_tells true c new at salt out e goes none =
     let p : Parting6 = parting_begun at c in
-    let origin = and_parts (is_off c.state && c.fresh && c.settings.site.persistent && has_origin c.kept) p.stays e in
-    let wish = and_parts (is_off c.state && c.fresh && c.settings.site.persistent) (has_origin c.kept) origin.0 in
-    let first = and_parts (is_off c.state && c.fresh) c.settings.site.persistent wish.0 in
+    let origin = and_parts (is_off c.state && c.fresh && c.settings.site.flags.persistent && has_origin c.kept) p.stays e in
+    let wish = and_parts (is_off c.state && c.fresh && c.settings.site.flags.persistent) (has_origin c.kept) origin.0 in
+    let first = and_parts (is_off c.state && c.fresh) c.settings.site.flags.persistent wish.0 in
     let off = and_parts (is_off c.state) c.fresh first.0 in
     absurd (stood_tells (turn_of at salt c) p c.state off.0 origin.1 (news_of _ (pruned at true c) new out goes none))
 begun_tells false c new at salt out e goes none =

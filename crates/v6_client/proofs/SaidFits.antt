@@ -16,7 +16,7 @@ use Rattle.v6_options.specs.OptionArea.{Instance, instances_in}
 use Rattle.lease6_text.specs.declared.lease.TheConstants.{ITEM_LIMIT, LONGEST_DELEGATED, SHORTEST_DELEGATED}
 use Rattle.lease6_text.specs.Bounds.{FitsItem, FitsLen, FitsMoment, IsNetwork}
 use Rattle.lease6_text.specs.LineParts.{is_same_kind}
-use Rattle.v6_client.specs.declared.settings.IaAsk.{IaAsk}
+use Rattle.v6_client.specs.declared.setup.IaAsk.{IaAsk}
 use Rattle.v6_client.specs.declared.times.TheConstants.{FOREVER}
 use Rattle.v6_client.specs.Bounds.{AreTimed, IsTimed}
 use Rattle.v6_client.specs.Reading.{cleared, has_len, ia_for, is_for, is_read, is_readable, is_usable, read_item, read_items, saids_of}

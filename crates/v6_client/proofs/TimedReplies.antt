@@ -19,7 +19,7 @@ use Rattle.v6_options.specs.OptionGrammar.{AreBytes}
 use Rattle.v6_message.specs.Replies.{Content6}
 use Rattle.lease6_text.specs.Bounds.{FitsItem, FitsLease6}
 use Rattle.v6_client.specs.declared.renewing.Spans6.{Spans6}
-use Rattle.v6_client.specs.declared.settings.IaAsk.{IaAsk}
+use Rattle.v6_client.specs.declared.setup.IaAsk.{IaAsk}
 use Rattle.v6_client.specs.declared.times.TheConstants.{FOREVER, SECOND, T1_PART, T2_PART}
 use Rattle.v6_client.specs.Answers.{granted, is_taken, learnt, meeting_of, server_of}
 use Rattle.v6_client.specs.Bounds.{AreTimed, IsTimed}

@@ -6,7 +6,7 @@ use Rattle.v6_options.specs.Ias.{ias_in}
 use Rattle.v6_message.specs.Replies.{Content6}
 use Rattle.lease6_text.specs.Leases.{Lease6Content}
 use Rattle.v6_client.specs.declared.answers.TheConstants.{LEAST_SOL_MAX, MOST_SOL_MAX}
-use Rattle.v6_client.specs.declared.settings.IaAsk.{IaAsk}
+use Rattle.v6_client.specs.declared.setup.IaAsk.{IaAsk}
 use Rattle.v6_client.specs.declared.states.Answer6.{Answer6}
 use Rattle.v6_client.specs.declared.states.Answer6.TheVariants as answer
 use Rattle.v6_client.specs.declared.states.State6.{State6}

@@ -12,7 +12,7 @@ use Rattle.lease6_text.specs.declared.lease.Item6.{Item6}
 use Rattle.lease6_text.specs.declared.lease.TheConstants.{ITEM_LIMIT}
 use Rattle.lease6_text.specs.Leases.{IaLeaseContent}
 use Rattle.lease6_text.specs.LineParts.{has_net, is_of_net}
-use Rattle.v6_client.specs.declared.settings.IaAsk.{IaAsk}
+use Rattle.v6_client.specs.declared.setup.IaAsk.{IaAsk}
 use Rattle.v6_client.specs.declared.states.Scope6.{Scope6}
 use Rattle.v6_client.specs.declared.states.Scope6.TheVariants as scope
 use Rattle.v6_client.specs.Items.{asked_at, items_at, is_in, is_live, is_nonempty}

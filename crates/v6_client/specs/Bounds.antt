@@ -6,7 +6,7 @@ use Rattle.v6_options.specs.declared.ia.ItemSaid.{ItemSaid}
 use Rattle.lease6_text.specs.declared.lease.Item6.{Item6}
 use Rattle.lease6_text.specs.declared.lease.TheConstants.{IA_LIMIT, ITEM_LIMIT}
 use Rattle.lease6_text.specs.Bounds.{FitsItem}
-use Rattle.v6_client.specs.declared.settings.IaAsk.{IaAsk}
+use Rattle.v6_client.specs.declared.setup.IaAsk.{IaAsk}
 
 -- four items at most, each once
 pub record FitsItems (kind : IaKind) (items : List Item6) : Type 0 where

@@ -5,7 +5,7 @@ use Rattle.v6_message.specs.declared.kind.ServerKind6.{ServerKind6}
 use Rattle.v6_message.specs.declared.kind.ServerKind6.TheVariants.{Advertise, Reply}
 use Rattle.v6_message.specs.Replies.{Content6}
 use Rattle.lease6_text.specs.Leases.{Lease6Content}
-use Rattle.v6_client.specs.declared.settings.IaAsk.{IaAsk}
+use Rattle.v6_client.specs.declared.setup.IaAsk.{IaAsk}
 use Rattle.v6_client.specs.declared.states.Answer6.{Answer6}
 use Rattle.v6_client.specs.declared.states.Carrier6.{Carrier6}
 use Rattle.v6_client.specs.declared.states.Carrier6.TheVariants.{Up, Down}
@@ -80,7 +80,7 @@ has_origin (Some lease) = is_some lease.origin
 -- A client that begins for the first time stands on the lease that was read, where that is wished for, the lease tells
 -- its origin, and some of its items are valid. `parting` is of these.
 abbrev pub stands_by : Parting6 → ClientContent → Bool
-stands_by parting c = is_off c.state && c.fresh && c.settings.site.persistent && has_origin c.kept && parting.stays
+stands_by parting c = is_off c.state && c.fresh && c.settings.site.flags.persistent && has_origin c.kept && parting.stays
 
 abbrev pub stands_at : (at : ℕ) → ClientContent → Bool
 stands_at at c = stands_by (parting_begun at c) c

@@ -5,7 +5,7 @@ use Rattle.v6_retrans.specs.declared.parameters.TheConstants.{SOL_MAX_RT}
 use Rattle.lease6_text.specs.Leases.{Lease6Content, lease6_content}
 use Rattle.v6_client.specs.declared.leases.Leases6.{Leases6}
 use Rattle.v6_client.specs.declared.leases.Plea6.{Plea6}
-use Rattle.v6_client.specs.declared.settings.Set6.{Set6}
+use Rattle.v6_client.specs.declared.setup.Set6.{Set6}
 use Rattle.v6_client.specs.declared.states.Scope6.{Scope6}
 use Rattle.v6_client.specs.declared.states.Scope6.TheVariants as scope
 use Rattle.v6_client.specs.declared.states.State6.{State6}

@@ -3,7 +3,7 @@ use Rattle.std.specs.Prelude.{List, option_map}
 use Rattle.v6_options.specs.Ias.{ias_in}
 use Rattle.lease6_text.specs.declared.lease.Item6.{Item6}
 use Rattle.lease6_text.specs.Leases.{lease6_content}
-use Rattle.v6_client.specs.declared.settings.IaAsk.{IaAsk}
+use Rattle.v6_client.specs.declared.setup.IaAsk.{IaAsk}
 use Rattle.v6_client.specs.declared.taking.Meeting6.{Meeting6}
 use Rattle.v6_client.specs.declared.taking.Taking6.{Taking6}
 use Rattle.v6_client.specs.Items.{asked_at, ias_of}

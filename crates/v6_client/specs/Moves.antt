@@ -3,7 +3,7 @@ use Rattle.std.specs.Prelude.{◌≡◌, ℕ, Bool, true, false, not, ◌&&◌, 
 use Rattle.net_types.specs.declared.address.Ip6.{Ip6}
 use Rattle.lease6_text.specs.Leases.{IaLeaseContent, Lease6Content, lease6_content}
 use Rattle.v6_client.specs.declared.client.Out6.{Out6}
-use Rattle.v6_client.specs.declared.settings.IaAsk.{IaAsk}
+use Rattle.v6_client.specs.declared.setup.IaAsk.{IaAsk}
 use Rattle.v6_client.specs.declared.states.Cause6.{Cause6}
 use Rattle.v6_client.specs.declared.states.Cause6.TheVariants.{Lapse, Duplicate}
 use Rattle.v6_client.specs.declared.states.Keep6.{Keep6}

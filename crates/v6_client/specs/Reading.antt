@@ -11,7 +11,7 @@ use Rattle.v6_options.specs.Statuses.{success}
 use Rattle.v6_message.specs.Replies.{Content6}
 use Rattle.lease6_text.specs.declared.lease.TheConstants.{ITEM_LIMIT, SHORTEST_DELEGATED, LONGEST_DELEGATED}
 use Rattle.lease6_text.specs.LineParts.{is_same_kind}
-use Rattle.v6_client.specs.declared.settings.IaAsk.{IaAsk}
+use Rattle.v6_client.specs.declared.setup.IaAsk.{IaAsk}
 
 -- ---- items
 

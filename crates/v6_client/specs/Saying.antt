@@ -5,7 +5,7 @@ use Rattle.v6_message.specs.declared.kind.Kind6.TheVariants as kind
 use Rattle.v6_message.specs.declared.said.Said6.{Said6}
 use Rattle.v6_message.specs.Requests.{AskedContent, asked_content}
 use Rattle.lease6_text.specs.Leases.{Lease6Content}
-use Rattle.v6_client.specs.declared.settings.IaAsk.{IaAsk}
+use Rattle.v6_client.specs.declared.setup.IaAsk.{IaAsk}
 use Rattle.v6_client.specs.declared.states.Say6.{Say6}
 use Rattle.v6_client.specs.declared.states.Scope6.{Scope6}
 use Rattle.v6_client.specs.Asking.{ia_solicited, ias_asked, ias_declined, ias_released}

@@ -12,7 +12,7 @@ pub record FitsTurn (turn : Turn6) : Type 0 where
 
 -- up to a second by chance, or a millisecond (RFC 8415, section 18.2.1)
 abbrev pub first_delay : Turn6 → ℕ
-first_delay turn = if turn.site.nodelay then 1 else draw_of turn.salt turn.site.iface.index DELAY_SPREAD
+first_delay turn = if turn.site.flags.nodelay then 1 else draw_of turn.salt turn.site.iface.index DELAY_SPREAD
 
 -- the hundredths of a second since a moment, as far as the field of a message goes (RFC 8415, section 21.9)
 abbrev pub elapsed : (began at : ℕ) → ℕ

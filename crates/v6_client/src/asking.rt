@@ -8,7 +8,7 @@ ghost use Rattle.v6_client.specs.Asking as asking;
 
 use crate::items::{asked_at, has_net, is_in, is_live, is_same_net, items_at};
 use crate::reading::{ia_for, saids_of};
-use crate::settings::IaAsk;
+use crate::setup::IaAsk;
 use crate::states::Scope6;
 use lease6_text::{ITEM_LIMIT, IaLease, Item6};
 use net_types::{Ip6, Net6, NoMemory};

@@ -30,7 +30,7 @@ use crate::items::parting_of;
 use crate::leases::{Leases6, Plea6, dates_of, ias_of};
 use crate::reading::serves;
 use crate::saying::spoken_by;
-use crate::settings::{IaAsk, Set6, Site6};
+use crate::setup::{IaAsk, Set6, Site6};
 use crate::states::{
     Answer6, Carrier6, Cause6, Dates6, News6, Parting6, Scope6, State6, Step6, Tell6,
 };
@@ -106,9 +106,8 @@ impl Client6 {
         Turn6 {
             site: Site6 {
                 iface: self.set.iface,
-                nodelay: self.set.nodelay,
+                flags: self.set.flags,
                 rapid: self.set.rapid,
-                persistent: self.set.persistent,
             },
             last: self.last,
             sol_max: self.sol_max,
@@ -209,7 +208,7 @@ impl Client6 {
     {
         is_off(self.state)
             && self.fresh
-            && self.set.persistent
+            && self.set.flags.persistent
             && self.leases.has_origin()
             && parting.stays
     }

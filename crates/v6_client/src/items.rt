@@ -6,7 +6,7 @@ ghost use Rattle.lease6_text.specs.Leases.{ia_content, ias_content};
 ghost use Rattle.lease6_text.specs.LineParts.{has_net, is_ia, is_of_net, is_same_kind};
 ghost use Rattle.v6_client.specs.Items as own;
 
-use crate::settings::IaAsk;
+use crate::setup::IaAsk;
 use crate::states::{Cause6, Parting6, Scope6};
 use crate::times::earlier;
 use lease6_text::{IaLease, Item6};

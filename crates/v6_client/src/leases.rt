@@ -7,7 +7,7 @@ ghost use Rattle.lease6_text.specs.Leases.{ias_content, lease6_content};
 ghost use Rattle.v6_client.specs.Items as own;
 
 use crate::items::lapse_in;
-use crate::settings::IaAsk;
+use crate::setup::IaAsk;
 use crate::states::{Dates6, Scope6};
 use lease_text::copied_values;
 use lease6_text::{IaLease, Lease6};

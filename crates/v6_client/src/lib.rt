@@ -18,7 +18,7 @@ mod parting;
 mod reading;
 mod renewing;
 mod saying;
-mod settings;
+mod setup;
 mod states;
 mod steps;
 mod taking;
@@ -42,7 +42,7 @@ pub use laws::{
 pub use leases::Plea6;
 pub use reading::{ia_for, is_for, is_readable, is_unbound, read_item, saids_of, serves};
 pub use renewing::Spans6;
-pub use settings::{IaAsk, Set6, Site6};
+pub use setup::{IaAsk, Set6, Site6};
 pub use states::{
     Answer6, Carrier6, Cause6, Dates6, Keep6, News6, Parting6, Say6, Scope6, State6, Step6, Tell6,
 };

@@ -10,7 +10,7 @@ ghost use Rattle.v6_client.specs.Moves as moves;
 use crate::asking::{ias_asked, ias_lapsed};
 use crate::items::{pruned_ias, without};
 use crate::leases::{Leases6, Plea6, duid_copied, ias_of};
-use crate::settings::IaAsk;
+use crate::setup::IaAsk;
 use crate::states::{Cause6, Parting6, Scope6};
 use lease6_text::{IaLease, Lease6};
 use net_types::NoMemory;

@@ -9,7 +9,7 @@ ghost use Rattle.v6_message.specs.Shown.{message_shown};
 ghost use Rattle.v6_client.specs.Reading as reading;
 
 use crate::items::is_same_kind;
-use crate::settings::IaAsk;
+use crate::setup::IaAsk;
 use lease6_text::{ITEM_LIMIT, LONGEST_DELEGATED, SHORTEST_DELEGATED};
 use net_types::{Ip6, Net6, NoMemory};
 use std::alloc::Global;

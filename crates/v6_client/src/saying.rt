@@ -8,7 +8,7 @@ ghost use Rattle.v6_client.specs.Saying as saying;
 
 use crate::asking::{ias_asked, ias_copied, ias_declined, ias_released, ias_solicited};
 use crate::leases::{Leases6, Plea6, duid_copied, ias_of};
-use crate::settings::IaAsk;
+use crate::setup::IaAsk;
 use crate::states::{Say6, Scope6};
 use lease6_text::Lease6;
 use net_types::NoMemory;

@@ -20,7 +20,7 @@ use crate::items::{asked_at, is_live, is_same_net, push_ia};
 use crate::leases::ias_of;
 use crate::reading::{ia_for, is_unbound, saids_of};
 use crate::renewing::{Spans6, joined, spans_of, t1_from, t2_from};
-use crate::settings::IaAsk;
+use crate::setup::IaAsk;
 use crate::states::Scope6;
 use crate::times::moment_after;
 use lease_text::{Origin, Value};

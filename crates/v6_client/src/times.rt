@@ -30,7 +30,7 @@ pub(crate) fn first_delay(turn: Turn6) -> u64
     ensures value { result ≡ times.first_delay turn }
     ensures most { result ≤ 1001 }
 {
-    if turn.site.nodelay {
+    if turn.site.flags.nodelay {
         1
     } else {
         u64::from(draw(turn.salt, turn.site.iface.index, DELAY_SPREAD))

@@ -1,6 +1,6 @@
 //! What a row of the table looks at beside the state.
 
-use crate::settings::Site6;
+use crate::setup::Site6;
 
 /// The settings, the transaction id of the last exchange, the longest time between two SOLICITs in milliseconds, the
 /// moment, and the salt of the turn.

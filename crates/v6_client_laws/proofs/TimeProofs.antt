@@ -8,7 +8,7 @@ use Rattle.v6_options.specs.Ias.{IaContent}
 use Rattle.v6_message.specs.Replies.{Content6}
 use Rattle.lease6_text.specs.Leases.{Lease6Content}
 use Rattle.v6_client.specs.declared.renewing.Spans6.{Spans6}
-use Rattle.v6_client.specs.declared.settings.IaAsk.{IaAsk}
+use Rattle.v6_client.specs.declared.setup.IaAsk.{IaAsk}
 use Rattle.v6_client.specs.declared.times.TheConstants.{FOREVER, LEAST_TIME, T1_PART, T2_PART}
 use Rattle.v6_client.specs.Answers.{granted, is_taken, meeting_of, server_of, takes_replies}
 use Rattle.v6_client.specs.Calls.{fresh_in}

@@ -5,7 +5,7 @@ use Rattle.std.specs.List.{Contains}
 use Rattle.machine.specs.Moment.{is_due}
 use Rattle.lease6_text.specs.declared.lease.Item6.{Item6}
 use Rattle.lease6_text.specs.Leases.{Lease6Content}
-use Rattle.v6_client.specs.declared.settings.IaAsk.{IaAsk}
+use Rattle.v6_client.specs.declared.setup.IaAsk.{IaAsk}
 use Rattle.v6_client.specs.declared.states.Cause6.TheVariants.{Lapse}
 use Rattle.v6_client.specs.declared.states.Keep6.TheVariants.{Stays}
 use Rattle.v6_client.specs.declared.states.News6.TheVariants as news

@@ -4,7 +4,7 @@ use Rattle.net_types.proofs.AllLaws.{all_map}
 use Rattle.lease_text.specs.Leases.{ValueContent}
 use Rattle.lease6_text.specs.Bounds.{FitsIas, FitsItem, FitsMoment, FitsValues6}
 use Rattle.lease6_text.specs.Leases.{IaLeaseContent}
-use Rattle.v6_client.specs.declared.settings.IaAsk.{IaAsk}
+use Rattle.v6_client.specs.declared.setup.IaAsk.{IaAsk}
 use Rattle.v6_client.specs.Meetings.{meeting_shown}
 use Rattle.v6_client.specs.Reading.{ia_for, saids_of}
 use Rattle.v6_client.specs.Taking.{IsTimedFor, Meeting, item_from}

@@ -1,6 +1,7 @@
 //! What a client is told about itself.
 
 use net_types::IfSpec;
+use settings::Flags;
 use v6_options::{Duid, IaKind};
 
 /// An IA that is asked for (RFC 8415, section 12).
@@ -17,23 +18,20 @@ pub struct IaAsk {
 pub struct Set6 {
     /// The interface that it serves.
     pub iface: IfSpec,
+    /// The directives of one word of the interface.
+    pub flags: Flags,
     /// What servers tell it by (RFC 8415, section 11).
     pub duid: Duid,
     /// What it asks for: at most six IAs, unlike in kind or IAID.
     pub ias: Vec<IaAsk>,
-    /// Whether the first SOLICIT goes out without the random delay.
-    pub nodelay: bool,
     /// Whether a server may answer a SOLICIT by a Reply (RFC 8415, section 18.2.1).
     pub rapid: bool,
-    /// Whether the items of a lease that was read at the start are held while they are asked for again.
-    pub persistent: bool,
 }
 
 /// The settings that the table of states looks at: those of `Set6` that are plain values.
 #[derive(Clone, Copy, PartialEq, Eq)]
 pub struct Site6 {
     pub iface: IfSpec,
-    pub nodelay: bool,
+    pub flags: Flags,
     pub rapid: bool,
-    pub persistent: bool,
 }
