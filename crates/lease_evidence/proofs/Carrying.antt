@@ -121,10 +121,12 @@ pub turn_mac : (site : Site) → sent.FitsMac site.managed.spec.mac → (c : Cli
     → sent.FitsMac c.settings.site.iface.mac
 turn_mac site mac c same = subst (λ (s : SettingsContent). sent.FitsMac s.site.iface.mac) (sym same) mac
 
-pub turn_noarp : (site : Site) (c : ClientContent) → c.settings ≡ settings_of site.duid site.managed → c.settings.site.flags.noarp ≡ site.managed.conf.flags.noarp
+pub turn_noarp : (site : Site) (c : ClientContent) → c.settings ≡ settings_of site.duid site.managed
+    → c.settings.site.flags.noarp ≡ site.managed.conf.flags.noarp
 turn_noarp site c same = ap (λ (s : SettingsContent). s.site.flags.noarp) same
 
-pub turn_flag : (site : Site) (c : ClientContent) → c.settings ≡ settings_of site.duid site.managed → c.settings.site.flags.persistent ≡ site.managed.conf.flags.persistent
+pub turn_flag : (site : Site) (c : ClientContent) → c.settings ≡ settings_of site.duid site.managed
+    → c.settings.site.flags.persistent ≡ site.managed.conf.flags.persistent
 turn_flag site c same = ap (λ (s : SettingsContent). s.site.flags.persistent) same
 
 pub within : (site : Site) (past : List Entry) → (kept_in site past).answered ≤ (seen_in site past).count

@@ -198,7 +198,8 @@ module _ (turn : Turn4) where
   requests exchange secs backoff n = record { names = n; own = by_server exchange.server n }
     where
       by_server : (server : Option Ip4) → is_some server ≡ true
-          → is_ours (speaker_at turn.site) (unaddressed mac Request exchange.xid secs (flags_by turn.site.flags.broadcast) (Some exchange.address) server) ≡ true
+          → is_ours (speaker_at turn.site) (unaddressed mac Request exchange.xid secs (flags_by turn.site.flags.broadcast) (Some exchange.address) server)
+          ≡ true
       by_server None h = absurd cc
       by_server (Some server) h = selecting_own mac exchange.xid secs turn.site.flags.broadcast exchange.address server
 
@@ -207,7 +208,10 @@ module _ (turn : Turn4) where
 
   renews : (exchange : Exchange4) (terms : Terms4) (acd : Option Acd) → IsHost terms → OwnStep (renewing turn exchange terms acd)
   renews exchange terms acd host =
-      record { names = tt; own = held_own mac exchange.xid turn.site.flags.broadcast terms.net.ip terms.server_mac terms.server (some_address terms.net.ip host) }
+      record {
+        names = tt;
+        own = held_own mac exchange.xid turn.site.flags.broadcast terms.net.ip terms.server_mac terms.server (some_address terms.net.ip host);
+      }
 
   rebinds : (exchange : Exchange4) (terms : Terms4) (acd : Option Acd) → IsHost terms → OwnStep (rebinding turn exchange terms acd)
   rebinds exchange terms acd host =

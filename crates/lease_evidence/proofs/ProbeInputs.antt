@@ -199,7 +199,8 @@ module _ (site : Site) (ask : AskContent) (clean : Type 0) (e : Entry) (past : L
       begun : (may_stand : Bool) (kept : Option Terms4) → Then (begins turn may_stand kept)
       begun may_stand None = λ calm. tt
       begun may_stand (Some terms) =
-          gated (λ (step : Step4). Then (record step { spends = true })) (is_due (expiry terms) turn.at || eqb turn.site.times.reboot 0) _ _ (λ calm. tt) (λ calm. tt)
+          gated (λ (step : Step4). Then (record step { spends = true })) (is_due (expiry terms) turn.at || eqb turn.site.times.reboot 0) _ _ (λ calm. tt)
+          (λ calm. tt)
 
       pub begin_bears : (may_stand : Bool) (kept : Option Terms4) (state : State4) → Amid state → Then (begin_row turn may_stand kept state)
       begin_bears may_stand kept Off b = begun may_stand kept

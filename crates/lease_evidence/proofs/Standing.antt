@@ -605,7 +605,8 @@ module _ (site : Site) (e : Entry) (past : List Entry) (first : Option Sent4) (n
         by true is = f (both_true turn.site.flags.persistent may (is_some terms.origin) is)
         by false is = tt
 
-  module _ (turn : Turn4) (none : NoNak) (flag : turn.site.flags.persistent ≡ site.managed.conf.flags.persistent) (up : has_carrier site (e ∷ past) ≡ true) where
+  module _ (turn : Turn4) (none : NoNak) (flag : turn.site.flags.persistent ≡ site.managed.conf.flags.persistent)
+      (up : has_carrier site (e ∷ past) ≡ true) where
     kept_off : (state : State4) (other : Option LeaseContent) → kept ≡ other → MayStand site past state kept → MayStand site past Off other
     kept_off state other same m =
         record {

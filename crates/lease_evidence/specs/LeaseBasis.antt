@@ -66,4 +66,5 @@ pub record LeaseBasis (site : Site) (net : Net) (now : ℕ) (past : List Entry) 
   pub gives : net ≡ V4 terms.net
   pub granted : Since (CalmFor site opened) (FirstAck site opened terms) past
   pub unexpired : is_unexpired opened.exchange.first terms.lease now ≡ true
-  pub probed : site.managed.conf.flags.noarp ≡ false → Probed (Calm site) (λ first before. Unit {0}) site terms.net.ip past
+  pub probed : site.managed.conf.flags.noarp ≡ false
+    → Probed (Calm site) (λ first before. Unit {0}) site terms.net.ip past

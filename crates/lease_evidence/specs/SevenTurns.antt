@@ -10,6 +10,7 @@ use Rattle.world.specs.declared.wakes.Event.{Event}
 use Rattle.world.specs.declared.wakes.Event.TheVariants.{Frame, Quiet}
 use Rattle.settings.specs.declared.interfaces.Managed.{Managed}
 use Rattle.settings.specs.Flags.{no_flags}
+use Rattle.settings.specs.Times.{usual_times}
 use Rattle.v4_client.specs.Saying.{discover, request}
 use Rattle.client_model.specs.Messages.{Said, Dhcp4, Arp}
 use Rattle.arp_acd.specs.declared.detection.ArpSay.TheVariants.{Probe, Announce}
@@ -35,7 +36,7 @@ interface =
     record plain_eth0 {
       conf = record plain_eth0.conf {
         flags = record no_flags { noipv4ll = true; nodelay = true };
-        times = record { timeout = 0; reboot = 0 };
+        times = record usual_times { timeout = 0; reboot = 0 };
       };
     }
 

@@ -151,7 +151,8 @@ module _ (site : Site) (answered_so : Answered) (wait : ℕ) (free : Type 0) (pa
     pub probed : IfSome (asked_at answered_so terms) (λ due. e.moment + probing site.managed.conf ≤ due)
     pub enough : IsBefore wait (asked_at answered_so terms) (needed_by answered_so terms)
 
-  module _ (settings : SettingsContent) (arrival : Arrival) (turn : Turn4) (now : turn.at ≡ e.moment) (noarp : turn.site.flags.noarp ≡ site.managed.conf.flags.noarp) where
+  module _ (settings : SettingsContent) (arrival : Arrival) (turn : Turn4) (now : turn.at ≡ e.moment)
+      (noarp : turn.site.flags.noarp ≡ site.managed.conf.flags.noarp) where
     -- what the message says in an exchange that is asked
     pub record HeardWell (exchange : Exchange4) : Type 0 where
       pub granted : (terms : Terms4) → reply_in settings arrival exchange ≡ answer.Ack terms → Granted terms

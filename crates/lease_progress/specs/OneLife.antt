@@ -35,7 +35,8 @@ pub record OneLifeGoesWell : Type 0 where
 
 -- eth0 of that life, which asks for five seconds
 abbrev pub asks_five_seconds : Managed
-asks_five_seconds = record interface { conf = record interface.conf { times = record interface.conf.times { reboot = 5 } } }
+asks_five_seconds =
+    record interface { conf = record interface.conf { times = record interface.conf.times { reboot = 5 } } }
 
 -- the lease of that life was kept
 abbrev pub with_kept : Beginning

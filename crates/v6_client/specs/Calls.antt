@@ -80,7 +80,8 @@ has_origin (Some lease) = is_some lease.origin
 -- A client that begins for the first time stands on the lease that was read, where that is wished for, the lease tells
 -- its origin, and some of its items are valid. `parting` is of these.
 abbrev pub stands_by : Parting6 → ClientContent → Bool
-stands_by parting c = is_off c.state && c.fresh && c.settings.site.flags.persistent && has_origin c.kept && parting.stays
+stands_by parting c =
+    is_off c.state && c.fresh && c.settings.site.flags.persistent && has_origin c.kept && parting.stays
 
 abbrev pub stands_at : (at : ℕ) → ClientContent → Bool
 stands_at at c = stands_by (parting_begun at c) c
