@@ -7,7 +7,7 @@ use Rattle.world.specs.declared.wakes.Event.TheVariants.{Quiet}
 use Rattle.settings.specs.declared.interfaces.Managed.{Managed}
 use Rattle.conf_text.specs.Configurations.{Configuration}
 use Rattle.conf_text.specs.Settings.{managed_of}
-use Rattle.audit_model.specs.Auditing.{Auditing, Living, begun, first_entry, turned}
+use Rattle.audit_turns.specs.AuditModel.Auditing.{Auditing, Living, begun, first_entry, turned}
 use Rattle.audit_sites.specs.declared.opening.Opening.{Opening}
 use Rattle.audit_turns.specs.Goings.{Going, GoesOn, going_in}
 use Rattle.audit_follower.specs.Holding.{counted}

@@ -8,10 +8,10 @@ use Rattle.world.specs.StoreCalls.{StoreCall}
 use Rattle.settings.specs.declared.interfaces.Managed.{Managed}
 use Rattle.script_model.specs.Lines.{Line}
 use Rattle.script_model.specs.Lines as lines
-use Rattle.evidence_words.specs.Entries.{Entry}
-use Rattle.evidence_words.specs.Inputs.{Site}
-use Rattle.audit_model.specs.Showing.{site_by}
-use Rattle.audit_model.specs.Auditing.{Judge, Living, Unjust, lacking, reads_after, site_in, turned, unjust_at, unjust_first, unjust_in, with_line}
+use Rattle.audit_turns.specs.EvidenceWords.Entries.{Entry}
+use Rattle.audit_turns.specs.EvidenceWords.Inputs.{Site}
+use Rattle.audit_turns.specs.AuditModel.Showing.{site_by}
+use Rattle.audit_turns.specs.AuditModel.Auditing.{Judge, Living, Unjust, lacking, reads_after, site_in, turned, unjust_at, unjust_first, unjust_in, with_line}
 use Rattle.audit_follower.specs.declared.course.Course.{Course}
 use Rattle.audit_follower.specs.declared.course.Course.TheVariants as courses
 use Rattle.audit_follower.specs.declared.unjust.Unjust as code

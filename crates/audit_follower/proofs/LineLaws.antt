@@ -6,7 +6,7 @@ use Rattle.world.specs.declared.wakes.Event.{Event}
 use Rattle.transcript_lines.specs.declared.lines.ToldLine.{ToldLine}
 use Rattle.transcript_lines.specs.declared.lines.ToldLine.TheVariants as told
 use Rattle.transcript_lines.specs.Contents.{line_of}
-use Rattle.audit_model.specs.Auditing.{Auditing, Judge, after, with_line}
+use Rattle.audit_turns.specs.AuditModel.Auditing.{Auditing, Judge, after, with_line}
 
 pub other_line : (judge : Judge) (kept : Auditing) (line : ToldLine)
     → ((spec : IfSpec) → line ≡ told.Interface spec → ⊥) → ((number : ℕ) → line ≡ told.Life number → ⊥)

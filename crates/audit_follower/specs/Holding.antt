@@ -1,8 +1,8 @@
 -- What an auditor holds of what is kept line by line.
 use Rattle.std.specs.Prelude.{◌≡◌, ℕ, ◌-◌, ◌^◌, Bool, true, false, min, List, [], ◌∷◌, map, length, Option, Some, None}
 use Rattle.world.specs.StoreCalls.{StoreCall}
-use Rattle.evidence_words.specs.Entries.{Entry}
-use Rattle.audit_model.specs.Auditing.{Auditing, Living, Unjust, reads_after, site_in}
+use Rattle.audit_turns.specs.EvidenceWords.Entries.{Entry}
+use Rattle.audit_turns.specs.AuditModel.Auditing.{Auditing, Living, Unjust, reads_after, site_in}
 use Rattle.audit_follower.specs.declared.auditor.Auditor.{Auditor}
 use Rattle.audit_follower.specs.declared.course.Course.{Course}
 use Rattle.audit_follower.specs.declared.course.Course.TheVariants as courses

@@ -5,7 +5,7 @@ ghost use Rattle.conf_text.specs.Fits.{FitsSpec};
 ghost use Rattle.script_model.specs.Lines.{EndOfLife, Read, Start, Turn};
 ghost use Rattle.transcript_lines.specs.Bounds.{FitsTold};
 ghost use Rattle.transcript_lines.specs.Contents.{line_of, reading_of};
-ghost use Rattle.audit_model.specs.Auditing.{Auditing, after, first, with_line};
+ghost use Rattle.audit_turns.specs.AuditModel.Auditing.{Auditing, after, first, with_line};
 ghost use Rattle.audit_sites.specs.Hosts.{IsRead};
 ghost use Rattle.audit_turns.specs.Goings.{is_read};
 ghost use Rattle.audit_follower.specs.Holding.{Audits, Finds};

@@ -14,20 +14,20 @@ use Rattle.world.specs.RowOrder.{put_in_order}
 use Rattle.script_model.specs.IfaceSets.{is_up}
 use Rattle.script_model.specs.Lines.{Line}
 use Rattle.script_model.specs.Lines as Model
-use Rattle.client_model.specs.HostDuid.{host_duid}
-use Rattle.client_model.specs.KeptLeases.{kept_by}
-use Rattle.client_model.specs.KeptLeases6.{kept6_by}
-use Rattle.device_calls.specs.Calls.{Call, Link, Host, Store, Hook, Dropped, host_call, store_call}
-use Rattle.device_calls.specs.CallLines.{lines_of, variable_line}
+use Rattle.evidence_words.specs.ClientModel.HostDuid.{host_duid}
+use Rattle.evidence_words.specs.ClientModel.KeptLeases.{kept_by}
+use Rattle.evidence_words.specs.ClientModel.KeptLeases6.{kept6_by}
+use Rattle.evidence_words.specs.DeviceCalls.Calls.{Call, Link, Host, Store, Hook, Dropped, host_call, store_call}
+use Rattle.evidence_words.specs.DeviceCalls.CallLines.{lines_of, variable_line}
 use Rattle.host_model.specs.HostTable.{is_done}
-use Rattle.turn_model.specs.Loading.{duid_file, lease4_file, lease6_file}
-use Rattle.turn_model.specs.Lives.{OpeningMet, Met, hold_lines, life_after, turn_lines}
-use Rattle.client_model.specs.Clients.{rows_of}
+use Rattle.evidence_words.specs.TurnModel.Loading.{duid_file, lease4_file, lease6_file}
+use Rattle.evidence_words.specs.TurnModel.Lives.{OpeningMet, Met, hold_lines, life_after, turn_lines}
+use Rattle.evidence_words.specs.ClientModel.Clients.{rows_of}
 use Rattle.world.specs.declared.wakes.Event.TheVariants.{Quiet}
-use Rattle.turn_model.specs.Turns.{Life, until}
+use Rattle.evidence_words.specs.TurnModel.Turns.{Life, until}
 use Rattle.evidence_words.specs.Entries.{Entry, Offer, entry_of, offer_in, opening_entry, shown_after}
 use Rattle.evidence_words.specs.HostDuids.{first_of, read_among, read_in}
-use Rattle.transcript_model.specs.Told as told
+use Rattle.transcript_read.specs.TranscriptModel.Told as told
 use Rattle.audit_model.specs.Showing.{Shown, entry_told, is_failed, offer_in_line, opening_told, read_in_line, rows_after, rows_with, shown_at_first, shown_next}
 use Rattle.audit_model.specs.Showing as showing
 use Rattle.audit_model.specs.LivesTold.{LivesAreToldSo, failed_last, has_failed, life_lived, lines_by, only_last, rows_by, rows_by_calls, rows_lived, turn_lived, turns_lived}

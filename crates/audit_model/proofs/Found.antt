@@ -4,9 +4,9 @@ use Rattle.std.specs.List.{AllByRecursion}
 use Rattle.net_types.specs.FirstBadLine.{IsSpelled}
 use Rattle.world.specs.declared.rows.HostRow.{HostRow}
 use Rattle.host_model.specs.HostTable.{InRowOrder}
-use Rattle.transcript_model.specs.Told.{Told, LifeTold, TurnTold}
-use Rattle.transcript_model.specs.LifeShapes.{AllFollow, FitsLife}
-use Rattle.transcript_model.specs.Transcripts.{FitsBody, SpellsTold}
+use Rattle.transcript_read.specs.TranscriptModel.Told.{Told, LifeTold, TurnTold}
+use Rattle.transcript_read.specs.TranscriptModel.LifeShapes.{AllFollow, FitsLife}
+use Rattle.transcript_read.specs.TranscriptModel.Transcripts.{FitsBody, SpellsTold}
 use Rattle.audit_model.specs.Showing.{Shown, shown_after, shown_at_first, shown_next}
 use Rattle.audit_model.specs.Verdicts.{BasisWord, FirstUnjust, IsJust, IsUnjust, LifeIsJust}
 use Rattle.audit_model.specs.Auditing.{Judge, Unjust, lacking, unjust_at, unjust_first}

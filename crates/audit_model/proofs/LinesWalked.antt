@@ -12,7 +12,7 @@ use Rattle.script_model.specs.Lines as Model
 use Rattle.host_model.specs.HostTable.{InRowOrder}
 use Rattle.host_model.proofs.HostTableRows.{with_in_order, without_in_order}
 use Rattle.evidence_words.specs.Entries.{Entry, Offer}
-use Rattle.transcript_model.specs.LifeShapes.{Follows, AllFollow}
+use Rattle.transcript_read.specs.TranscriptModel.LifeShapes.{Follows, AllFollow}
 use Rattle.transcript_read.specs.Bodies.{followed}
 use Rattle.audit_model.specs.Showing.{offer_in_line, read_in_line, is_failed, rows_with, rows_after}
 use Rattle.audit_model.specs.Auditing.{Judge, Auditing, Living, after, is_judged, offered, put_judged, reads_after, with_line}

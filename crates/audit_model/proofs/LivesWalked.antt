@@ -7,14 +7,14 @@ use Rattle.net_types.specs.declared.interface.IfSpec.{IfSpec}
 use Rattle.world.specs.declared.wakes.Begin.{Begin}
 use Rattle.world.specs.StoreCalls.{StoreCall}
 use Rattle.settings.specs.declared.interfaces.Managed.{Managed}
-use Rattle.conf_text.specs.Settings.{managed_of}
-use Rattle.conf_text.specs.Configurations.{Configuration}
+use Rattle.transcript_read.specs.ConfText.Settings.{managed_of}
+use Rattle.transcript_read.specs.ConfText.Configurations.{Configuration}
 use Rattle.script_model.specs.Lines.{Line}
 use Rattle.script_model.specs.Lines as Model
 use Rattle.host_model.specs.HostTable.{InRowOrder}
-use Rattle.transcript_model.specs.Told.{Told, LifeTold, TurnTold, turn_lines, life_lines, lives_lines}
-use Rattle.transcript_model.specs.LifeShapes.{AllFollow, FitsLife}
-use Rattle.transcript_model.specs.Transcripts.{FitsBody}
+use Rattle.transcript_read.specs.TranscriptModel.Told.{Told, LifeTold, TurnTold, turn_lines, life_lines, lives_lines}
+use Rattle.transcript_read.specs.TranscriptModel.LifeShapes.{AllFollow, FitsLife}
+use Rattle.transcript_read.specs.TranscriptModel.Transcripts.{FitsBody}
 use Rattle.transcript_read.specs.Bodies.{followed}
 use Rattle.audit_model.specs.Showing.{Shown, read_in_line, shown_at_first, shown_next}
 use Rattle.audit_model.specs.Auditing.{Judge, Auditing, Living, Unjust, after, begun, first, turned, unjust_first, unjust_in}

@@ -14,8 +14,8 @@ use Rattle.world.specs.RowOrder.{with_row, without_row}
 use Rattle.world.specs.StoreCalls.{StoreCall, ReadFile}
 use Rattle.settings.specs.declared.interfaces.Managed.{Managed}
 use Rattle.settings.specs.ManagedRows.{is_managed}
-use Rattle.conf_text.specs.Configurations.{Configuration}
-use Rattle.conf_text.specs.Settings.{managed_of}
+use Rattle.transcript_read.specs.ConfText.Configurations.{Configuration}
+use Rattle.transcript_read.specs.ConfText.Settings.{managed_of}
 use Rattle.script_model.specs.Lines.{Line, Interface, Life, Start, Read, Turn, Send, HostListed, Row, HostListFailed, HostDel, HostAdd, EndOfLife}
 use Rattle.evidence_words.specs.Entries.{Entry, Offer}
 use Rattle.evidence_words.specs.Inputs.{Site}

@@ -7,8 +7,8 @@ use Rattle.world.specs.declared.rows.HostRow.{HostRow}
 use Rattle.settings.specs.declared.interfaces.Managed.{Managed}
 use Rattle.evidence_words.specs.Entries.{Entry}
 use Rattle.evidence_words.specs.Inputs.{Site}
-use Rattle.transcript_model.specs.Told.{Told, body_lines}
-use Rattle.transcript_model.specs.Transcripts.{FitsBody, SpellsTold}
+use Rattle.transcript_read.specs.TranscriptModel.Told.{Told, body_lines}
+use Rattle.transcript_read.specs.TranscriptModel.Transcripts.{FitsBody, SpellsTold}
 use Rattle.transcript_read.specs.Bodies.{followed}
 use Rattle.audit_model.specs.Verdicts.{BasisWord, Justified, FirstUnjust, IsYes, IsNo, turns_told}
 use Rattle.audit_model.specs.Auditing.{Judge, Auditing, Unjust, after, first}

@@ -8,17 +8,17 @@ use Rattle.world.specs.RowOrder.{in_row_order, with_row, without_row}
 use Rattle.settings.specs.declared.interfaces.Managed.{Managed}
 use Rattle.script_model.specs.IfaceSets.{is_up}
 use Rattle.script_model.specs.Lines.{Line, Start, Until, EndOfLife}
-use Rattle.client_model.specs.Clients.{rows_of}
-use Rattle.device_calls.specs.Calls.{Call, host_call}
-use Rattle.device_calls.specs.CallLines.{lines_of}
+use Rattle.evidence_words.specs.ClientModel.Clients.{rows_of}
+use Rattle.evidence_words.specs.DeviceCalls.Calls.{Call, host_call}
+use Rattle.evidence_words.specs.DeviceCalls.CallLines.{lines_of}
 use Rattle.host_model.specs.HostTable.{is_done}
-use Rattle.turn_model.specs.Turns.{Life, until}
-use Rattle.turn_model.specs.Lives.{OpeningMet, Met, hold_lines, life_after, life_lines}
+use Rattle.evidence_words.specs.TurnModel.Turns.{Life, until}
+use Rattle.evidence_words.specs.TurnModel.Lives.{OpeningMet, Met, hold_lines, life_after, life_lines}
 use Rattle.evidence_words.specs.Entries.{shown_of}
 use Rattle.evidence_words.specs.FiledLeases.{kept4_shown, kept6_shown}
 use Rattle.evidence_words.specs.HostDuids.{duid_shown}
 use Rattle.evidence_words.specs.Inputs.{Site}
-use Rattle.transcript_model.specs.Told.{LifeTold, TurnTold, lines_within}
+use Rattle.transcript_read.specs.TranscriptModel.Told.{LifeTold, TurnTold, lines_within}
 use Rattle.audit_model.specs.Showing.{Shown, read_in_line, shown_after, shown_at_first, site_by}
 
 -- ---- how it is told

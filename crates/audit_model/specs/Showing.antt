@@ -7,17 +7,17 @@ use Rattle.world.specs.declared.wakes.Event.TheVariants.{Quiet}
 use Rattle.world.specs.RowOrder.{with_row, without_row}
 use Rattle.world.specs.StoreCalls.{StoreCall, ReadFile}
 use Rattle.settings.specs.declared.interfaces.Managed.{Managed}
-use Rattle.conf_text.specs.Settings.{managed_of}
+use Rattle.transcript_read.specs.ConfText.Settings.{managed_of}
 use Rattle.script_model.specs.IfaceSets.{is_up}
 use Rattle.script_model.specs.Lines.{Line, Read, Send, HostListed, Row, HostListFailed, HostDel, HostAdd}
-use Rattle.client_model.specs.HostDuid.{host_duid}
-use Rattle.client_model.specs.KeptLeases.{kept_by}
-use Rattle.client_model.specs.KeptLeases6.{kept6_by}
-use Rattle.turn_model.specs.Loading.{duid_file, lease4_file, lease6_file}
+use Rattle.evidence_words.specs.ClientModel.HostDuid.{host_duid}
+use Rattle.evidence_words.specs.ClientModel.KeptLeases.{kept_by}
+use Rattle.evidence_words.specs.ClientModel.KeptLeases6.{kept6_by}
+use Rattle.evidence_words.specs.TurnModel.Loading.{duid_file, lease4_file, lease6_file}
 use Rattle.evidence_words.specs.Entries.{Entry, Offer}
 use Rattle.evidence_words.specs.HostDuids.{read_among}
 use Rattle.evidence_words.specs.Inputs.{Site}
-use Rattle.transcript_model.specs.Told.{Told, LifeTold, TurnTold}
+use Rattle.transcript_read.specs.TranscriptModel.Told.{Told, LifeTold, TurnTold}
 
 -- ---- what a line tells
 

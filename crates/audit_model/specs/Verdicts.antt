@@ -13,8 +13,8 @@ use Rattle.settings.specs.declared.interfaces.Managed.{Managed}
 use Rattle.settings.specs.ManagedRows.{is_managed}
 use Rattle.evidence_words.specs.Entries.{Entry}
 use Rattle.evidence_words.specs.Inputs.{Site}
-use Rattle.transcript_model.specs.Told.{Told, LifeTold, TurnTold}
-use Rattle.transcript_model.specs.Transcripts.{SpellsTold}
+use Rattle.transcript_read.specs.TranscriptModel.Told.{Told, LifeTold, TurnTold}
+use Rattle.transcript_read.specs.TranscriptModel.Transcripts.{SpellsTold}
 use Rattle.audit_model.specs.Showing.{Shown, managed_told, shown_after, shown_at_first, site_told}
 
 -- What it is to be that an address on an interface rests on what was shown, given the managed interfaces and what is

@@ -22,7 +22,7 @@ use Rattle.audit_sites.specs.Reads.{reads_of}
 use Rattle.audit_sites.specs.declared.opening.Opening.{Opening}
 use Rattle.audit_turns.specs.Goings.{GoesOn, Going, is_read}
 use Rattle.audit_words.specs.Shown.{entry_shown}
-use Rattle.audit_follower.specs.Holding.{IsPastOne, with_read}
+use Rattle.transcript_audit.specs.AuditFollower.Holding.{IsPastOne, with_read}
 use Rattle.transcript_lines.specs.Contents.{line_of}
 use Rattle.transcript_lines.specs.declared.lines.ToldLine.{ToldLine}
 use Rattle.transcript_lines.specs.declared.lines.ToldLine.TheVariants as told

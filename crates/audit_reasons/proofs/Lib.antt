@@ -6,3 +6,4 @@ pub mod Accounted
 mod RowLaws
 mod TurnLaws
 mod CourseLaws
+pub use Rattle.transcript_audit.proofs.Evidence

@@ -10,14 +10,14 @@ use Rattle.settings.specs.declared.interfaces.Managed.{Managed}
 use Rattle.evidence_words.specs.Entries.{Entry}
 use Rattle.evidence_words.specs.IfaceLives.{now_in}
 use Rattle.evidence_words.specs.Inputs.{Site, index_at}
-use Rattle.evidence.specs.Laws.{BasisWith, KeptBasis}
-use Rattle.kept_judge.proofs.Lists.{has_any}
+use Rattle.transcript_audit.specs.Evidence.Laws.{BasisWith, KeptBasis}
+use Rattle.transcript_audit.proofs.KeptJudge.Lists.{has_any}
 use Rattle.v6_client_laws.proofs.Given.{met}
 use Rattle.audit_seats.specs.Tests.{judged_by, rests_on}
-use Rattle.iface_judge.specs.Joined.{is_own, is_shared, of_number}
-use Rattle.iface_judge.specs.Laws.{HeardAddress}
-use Rattle.iface_judge.proofs.Owning.{own_told}
-use Rattle.iface_judge.proofs.SharesTold.{shares_told}
+use Rattle.transcript_audit.specs.IfaceJudge.Joined.{is_own, is_shared, of_number}
+use Rattle.transcript_audit.specs.IfaceJudge.Laws.{HeardAddress}
+use Rattle.transcript_audit.proofs.IfaceJudge.Owning.{own_told}
+use Rattle.transcript_audit.proofs.IfaceJudge.SharesTold.{shares_told}
 use Rattle.basis_turns.specs.BasisFinds.{basis_found}
 use Rattle.basis_turns.specs.BasisShown.{FoundAreShown, HasOwnBasis, ShownBy}
 use Rattle.basis_turns.specs.declared.walks.Basis.{Basis}

@@ -7,7 +7,7 @@ use Rattle.audit_model.specs.Auditing.{Living}
 use Rattle.audit_sites.specs.Openings.{Opens}
 use Rattle.audit_turns.specs.Goings.{GoesOn, Going, going_in, going_of}
 use Rattle.audit_words.specs.Shown.{entry_shown}
-use Rattle.audit_follower.specs.Holding.{IsPastOne}
+use Rattle.transcript_audit.specs.AuditFollower.Holding.{IsPastOne}
 use Rattle.basis_turns.specs.Turns.{shown_after}
 use Rattle.basis_turns.specs.declared.shown_turn.ShownTurn.{ShownTurn}
 use Rattle.audit_reasons.specs.Explaining.{Explaining, past_of, said_of}

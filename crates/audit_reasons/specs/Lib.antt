@@ -6,3 +6,5 @@ pub mod Explaining
 pub mod Holding
 pub mod Accounts
 pub mod Saying
+pub use Rattle.transcript_audit.specs.Evidence
+pub use Rattle.transcript_audit.specs as TranscriptAudit

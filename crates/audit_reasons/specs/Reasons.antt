@@ -9,9 +9,9 @@ use Rattle.settings.specs.declared.interfaces.Managed.{Managed}
 use Rattle.evidence_words.specs.Entries.{Entry}
 use Rattle.evidence_words.specs.IfaceLives.{now_in}
 use Rattle.evidence_words.specs.Inputs.{Site}
-use Rattle.evidence.specs.Laws.{HasBasisAmong, KeptBasis, RestsWith}
-use Rattle.evidence.specs.ShareBasis.{ShareBasisOf}
-use Rattle.lease6_judge.specs.HeardBasis.{HeardBasis}
+use Rattle.transcript_audit.specs.Evidence.Laws.{HasBasisAmong, KeptBasis, RestsWith}
+use Rattle.transcript_audit.specs.Evidence.ShareBasis.{ShareBasisOf}
+use Rattle.transcript_audit.specs.Lease6Judge.HeardBasis.{HeardBasis}
 use Rattle.audit_model.specs.Verdicts.{BasisWord}
 use Rattle.basis_turns.specs.BasisShown.{ShownBy}
 use Rattle.basis_turns.specs.declared.walks.Basis.{Basis}

@@ -13,7 +13,7 @@ ghost use Rattle.audit_sites.specs.Hosts.{IsRead};
 ghost use Rattle.audit_sites.specs.Openings.{Opens};
 ghost use Rattle.audit_turns.specs.Goings.{going_in, going_of, is_read};
 ghost use Rattle.audit_words.specs.Shown.{entry_shown};
-ghost use Rattle.audit_follower.specs.Holding.{with_read};
+ghost use Rattle.transcript_audit.specs.AuditFollower.Holding.{with_read};
 ghost use Rattle.audit_reasons.specs.Explaining.{Explaining, after, first, judged_now, life_judged, said_of};
 ghost use Rattle.audit_reasons.specs.Holding.{Closes, Courses, Explains, rows_judged};
 

@@ -4,7 +4,7 @@ ghost use Rattle.evidence_words.specs.Entries.{Entry};
 ghost use Rattle.evidence_words.specs.IfaceLives.{now_in};
 ghost use Rattle.audit_words.specs.Shown.{entry_shown, site_shown};
 ghost use Rattle.audit_seats.specs.Seats.{AllTell, sites_of};
-ghost use Rattle.iface_judge.specs.Telling.{Tells};
+ghost use Rattle.transcript_audit.specs.IfaceJudge.Telling.{Tells};
 ghost use Rattle.basis_turns.specs.Turns.{shown_after};
 ghost use Rattle.audit_reasons.specs.Judging.{IsAfter};
 ghost use Rattle.audit_reasons.specs.Finding.{first_given, kept_reason, own_at, own_reason, reason_among, row_reason, share_at};
@@ -12,9 +12,9 @@ ghost use Rattle.audit_reasons.specs.Finding.{first_given, kept_reason, own_at, 
 use crate::reason::Reason;
 use audit_seats::{Judge, Seat, Watched, all_first, all_turned};
 use basis_turns::{ShownTurn, basis_in};
-use iface_judge::IfaceJudge;
 use net_types::{Net, NoMemory};
 use std::alloc::Global;
+use transcript_audit::IfaceJudge;
 use world::HostRow;
 
 /// The interfaces of a life, each with what is judged of it after some turns, and the moment of the last of these.

@@ -11,3 +11,4 @@ mod reason;
 pub use account::{Account, explain, text_of};
 pub use line::BasisLine;
 pub use reason::Reason;
+pub use transcript_audit::{AuditAnswer, Verdict, a_verdict_is_one, audit};

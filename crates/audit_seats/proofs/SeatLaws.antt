@@ -4,7 +4,7 @@ use Rattle.std.specs.Prelude.{◌==◌}
 use Rattle.std.specs.List.{list_any}
 use Rattle.std.proofs.lemmas.List.{length-set, set-get_or}
 use Rattle.world.specs.declared.wakes.Event.{Event}
-use Rattle.evidence_words.specs.Entries.{Entry}
+use Rattle.audit_words.specs.EvidenceWords.Entries.{Entry}
 use Rattle.audit_words.specs.Shown.{offer_shown, site_shown}
 use Rattle.audit_words.specs.declared.shown.Offer.{Offer}
 use Rattle.audit_seats.specs.Concern.{is_input, is_offered}

@@ -4,8 +4,8 @@ use Rattle.std.specs.Prelude.{cond}
 use Rattle.std.specs.List.{list_any, find}
 use Rattle.world.specs.declared.rows.HostRow.{HostRow}
 use Rattle.world.specs.declared.rows.HostRow.TheVariants.{Addr, Route}
-use Rattle.evidence_words.specs.Inputs.{Site}
-use Rattle.audit_model.specs.Auditing.{Living, is_just, site_in}
+use Rattle.audit_words.specs.EvidenceWords.Inputs.{Site}
+use Rattle.audit_turns.specs.AuditModel.Auditing.{Living, is_just, site_in}
 use Rattle.audit_seats.specs.Tests.{OwnTest, ShareTest, judged_by, rests_at, row_rests}
 
 pub any_mapped : {X Y : Type 0} (test : Y → Bool) (view : X → Y) (xs : List X) → list_any test (map view xs) ≡ list_any (λ x. test (view x)) xs

@@ -3,7 +3,7 @@ use Rattle.std.specs.Prelude.{ℕ, Bool, true, false, ◌||◌, ◌==◌, List}
 use Rattle.std.specs.List.{list_any}
 use Rattle.world.specs.declared.wakes.Event.{Event}
 use Rattle.world.specs.declared.wakes.Event.TheVariants.{Frame, Carrier, Duplicate, Release, Rebind, Stop, Quiet, End}
-use Rattle.evidence_words.specs.Entries.{Entry, Offer}
+use Rattle.audit_words.specs.EvidenceWords.Entries.{Entry, Offer}
 
 -- an input is one of the interface of a number, or of all
 abbrev pub is_input : ℕ → Event → Bool

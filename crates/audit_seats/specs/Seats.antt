@@ -1,8 +1,8 @@
 -- The interfaces that are judged, each with its judge.
 use Rattle.std.specs.Prelude.{◌≡◌, ℕ, List, ◌∷◌, get_or, map, set}
 use Rattle.std.specs.List.{AllByRecursion}
-use Rattle.evidence_words.specs.Entries.{Entry}
-use Rattle.evidence_words.specs.Inputs.{Site}
+use Rattle.audit_words.specs.EvidenceWords.Entries.{Entry}
+use Rattle.audit_words.specs.EvidenceWords.Inputs.{Site}
 use Rattle.audit_words.specs.Shown.{site_shown}
 use Rattle.audit_seats.specs.declared.seats.Watched.{Watched}
 

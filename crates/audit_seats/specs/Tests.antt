@@ -4,9 +4,9 @@ use Rattle.std.specs.List.{list_any}
 use Rattle.net_types.specs.declared.address.Net.{Net}
 use Rattle.world.specs.declared.rows.HostRow.{HostRow}
 use Rattle.world.specs.declared.rows.HostRow.TheVariants.{Addr, Route}
-use Rattle.evidence_words.specs.Entries.{Entry}
-use Rattle.evidence_words.specs.Inputs.{Site, index_at}
-use Rattle.audit_model.specs.Auditing.{Judge}
+use Rattle.audit_words.specs.EvidenceWords.Entries.{Entry}
+use Rattle.audit_words.specs.EvidenceWords.Inputs.{Site, index_at}
+use Rattle.audit_turns.specs.AuditModel.Auditing.{Judge}
 
 -- whether an address on an interface itself rests on the turns
 abbrev pub OwnTest : Type 0

@@ -1,7 +1,7 @@
 //! Which interfaces a turn concerns.
 ghost use Rattle.std.specs.Prelude.{◌≡◌, ◌==◌};
 ghost use Rattle.std.specs.List.{list_any};
-ghost use Rattle.evidence_words.specs.Inputs.{index_at};
+ghost use Rattle.audit_words.specs.EvidenceWords.Inputs.{index_at};
 ghost use Rattle.audit_words.specs.Shown.{entry_shown, offer_shown, site_shown};
 ghost use Rattle.audit_seats.specs.Concern.{concerns, is_input, is_offered};
 

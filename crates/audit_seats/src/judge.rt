@@ -1,9 +1,9 @@
 //! What judges the addresses of one interface.
 ghost use Rattle.std.specs.Prelude.{◌≡◌, ◌<◌, ◌^◌, ℕ, Bool, true, List, [], ◌∷◌, IfOk};
 ghost use Rattle.net_types.specs.declared.address.Net.{Net};
-ghost use Rattle.evidence_words.specs.Entries as told;
-ghost use Rattle.evidence_words.specs.IfaceLives.{now_in};
-ghost use Rattle.evidence_words.specs.Inputs as told_of;
+ghost use Rattle.audit_words.specs.EvidenceWords.Entries as told;
+ghost use Rattle.audit_words.specs.EvidenceWords.IfaceLives.{now_in};
+ghost use Rattle.audit_words.specs.EvidenceWords.Inputs as told_of;
 ghost use Rattle.audit_words.specs.Shown.{FitsSite, entry_shown, site_shown};
 
 use audit_words::{Entry, Site};

@@ -1,10 +1,10 @@
 //! The rows that are shown, judged.
 ghost use Rattle.std.specs.Prelude.{◌≡◌, ◌<◌, ◌∷◌, true, length, map, not, IfSome, List};
 ghost use Rattle.std.specs.List.{find, list_any};
-ghost use Rattle.evidence_words.specs.Entries as told;
-ghost use Rattle.evidence_words.specs.IfaceLives.{now_in};
+ghost use Rattle.audit_words.specs.EvidenceWords.Entries as told;
+ghost use Rattle.audit_words.specs.EvidenceWords.IfaceLives.{now_in};
 ghost use Rattle.audit_seats.specs.Seats.{AllTell, sites_of};
-ghost use Rattle.audit_model.specs.Auditing.{Living, lacking, site_in};
+ghost use Rattle.audit_turns.specs.AuditModel.Auditing.{Living, lacking, site_in};
 ghost use Rattle.audit_turns.specs.Goings.{going_in, going_of};
 ghost use Rattle.audit_seats.specs.Tests.{judged_by, rests_at, row_rests};
 

@@ -1,9 +1,9 @@
 //! The interfaces that are judged, each with its judge.
 ghost use Rattle.std.specs.Prelude.{◌≡◌, ◌==◌, ◌<◌, ◌^◌, true, [], ◌∷◌, List, length, map, IfOk, OnOk};
 ghost use Rattle.std.specs.List.{list_any};
-ghost use Rattle.evidence_words.specs.Entries as told;
-ghost use Rattle.evidence_words.specs.IfaceLives.{now_in};
-ghost use Rattle.evidence_words.specs.Inputs.{index_at};
+ghost use Rattle.audit_words.specs.EvidenceWords.Entries as told;
+ghost use Rattle.audit_words.specs.EvidenceWords.IfaceLives.{now_in};
+ghost use Rattle.audit_words.specs.EvidenceWords.Inputs.{index_at};
 ghost use Rattle.audit_words.specs.Shown.{entry_shown, site_shown};
 ghost use Rattle.audit_seats.specs.Seats.{AllTell, IsTurnedAt, sites_of};
 ghost use Rattle.audit_seats.specs.Tests.{rests_at};

@@ -4,9 +4,9 @@ use Rattle.net_types.specs.declared.address.Mac.{Mac}
 use Rattle.world.specs.declared.wakes.Begin.{Begin}
 use Rattle.world.specs.StoreCalls.{StoreCall}
 use Rattle.settings.specs.declared.interfaces.Managed.{Managed}
-use Rattle.evidence_words.specs.Inputs.{Site}
-use Rattle.audit_model.specs.Showing.{site_by}
-use Rattle.audit_model.specs.Auditing.{Living, site_in}
+use Rattle.audit_words.specs.EvidenceWords.Inputs.{Site}
+use Rattle.audit_seats.specs.AuditModel.Showing.{site_by}
+use Rattle.audit_seats.specs.AuditModel.Auditing.{Living, site_in}
 use Rattle.audit_sites.specs.declared.opening.Opening.{Opening}
 use Rattle.audit_sites.specs.Openings.{Opens}
 use Rattle.audit_sites.specs.Reads.{reads_of}

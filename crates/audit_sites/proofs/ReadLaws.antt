@@ -2,7 +2,7 @@
 use Rattle.std.proofs.Common.{ℕ, ◌+◌, ◌<◌, Bool, true, false, cond, List, [], ◌∷◌, ◌≡◌, Option, Some, None, sym, ap, ◌∙◌, bytes_eq, length, drop, get_or}
 use Rattle.world.specs.StoreCalls.{Reading}
 use Rattle.transcript_lines.specs.Contents.{reading_of}
-use Rattle.evidence_words.specs.HostDuids.{first_of, read_among}
+use Rattle.audit_words.specs.EvidenceWords.HostDuids.{first_of, read_among}
 use Rattle.audit_sites.specs.declared.reads.FileRead.{FileRead}
 use Rattle.audit_sites.specs.Reads.{reads_of}
 use Rattle.audit_seats.proofs.LoopLaws.{left_of}

@@ -1,6 +1,6 @@
 -- What an auditor holds of an opening.
 use Rattle.std.specs.Prelude.{◌≡◌, []}
-use Rattle.audit_model.specs.Auditing.{Living}
+use Rattle.audit_seats.specs.AuditModel.Auditing.{Living}
 use Rattle.audit_sites.specs.declared.opening.Opening.{Opening}
 use Rattle.audit_sites.specs.Reads.{reads_of}
 

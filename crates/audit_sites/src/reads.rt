@@ -1,6 +1,6 @@
 //! The files that an opening read.
 ghost use Rattle.std.specs.Prelude.{◌≡◌, bytes_eq, option_map};
-ghost use Rattle.evidence_words.specs.HostDuids.{read_among};
+ghost use Rattle.audit_words.specs.EvidenceWords.HostDuids.{read_among};
 ghost use Rattle.transcript_lines.specs.Contents.{reading_of};
 ghost use Rattle.audit_sites.specs.Reads.{reads_of};
 

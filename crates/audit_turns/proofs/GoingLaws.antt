@@ -5,7 +5,7 @@ use Rattle.std.specs.List.{list_any}
 use Rattle.world.specs.declared.rows.HostRow.{HostRow}
 use Rattle.world.specs.declared.rows.HostRow.TheVariants.{Addr, Route}
 use Rattle.world.specs.RowOrder.{with_row}
-use Rattle.settings.specs.declared.interfaces.Managed.{Managed}
+use Rattle.audit_words.specs.IfaceSettings.declared.interfaces.Managed.{Managed}
 use Rattle.script_model.specs.Lines.{Line}
 use Rattle.script_model.specs.Lines as lines
 use Rattle.audit_model.specs.Auditing.{Living, is_judged, with_line}

@@ -1,1 +1,2 @@
 mod GoingLaws
+pub use Rattle.audit_model.proofs as AuditModel

@@ -5,7 +5,7 @@ use Rattle.world.specs.declared.rows.HostRow.{HostRow}
 use Rattle.world.specs.declared.rows.HostRow.TheVariants.{Addr, Route}
 use Rattle.world.specs.RowOrder.{with_row, without_row}
 use Rattle.script_model.specs.Lines.{Line, Read, Send, HostListed, Row, HostListFailed, HostDel, HostAdd}
-use Rattle.evidence_words.specs.Entries.{Entry}
+use Rattle.audit_words.specs.EvidenceWords.Entries.{Entry}
 use Rattle.audit_model.specs.Auditing.{Living, offered}
 use Rattle.audit_words.specs.Shown.{entry_shown}
 use Rattle.audit_turns.specs.declared.going.Going as code

@@ -3,7 +3,7 @@ use Rattle.std.specs.Prelude.{map}
 use Rattle.std.specs.Option.{option_map}
 use Rattle.lease_text.specs.Leases.{lease_content}
 use Rattle.lease6_text.specs.Leases.{lease6_content}
-use Rattle.client_model.specs.Fitting.{FitsBeginning}
+use Rattle.evidence_words.specs.ClientModel.Fitting.{FitsBeginning}
 use Rattle.evidence_words.specs.Entries as told
 use Rattle.evidence_words.specs.Inputs as told_of
 use Rattle.audit_words.specs.declared.shown.Entry.{Entry}

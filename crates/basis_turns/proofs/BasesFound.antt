@@ -7,9 +7,9 @@ use Rattle.net_types.specs.declared.address.Net4.{Net4}
 use Rattle.net_types.specs.declared.address.Net6.{Net6}
 use Rattle.evidence_words.specs.Entries.{Entry}
 use Rattle.evidence_words.specs.Inputs.{Site}
-use Rattle.lease_evidence.specs.LeaseBasis.{LeaseBasis}
-use Rattle.lease6_judge.specs.HeardBasis.{HeardAddressBasis, HeardItem, Spares}
-use Rattle.local_evidence.specs.LinkLocalBasis.{LinkLocalBasis}
+use Rattle.static_judge.specs.LeaseEvidence.LeaseBasis.{LeaseBasis}
+use Rattle.item_judge.specs.Lease6Judge.HeardBasis.{HeardAddressBasis, HeardItem, Spares}
+use Rattle.static_judge.specs.LocalEvidence.LinkLocalBasis.{LinkLocalBasis}
 use Rattle.static_judge.proofs.Configured.{bases as static_bases}
 use Rattle.static_judge.specs.Judge as statics
 use Rattle.basis_turns.specs.BasisFinds.{basis_found, found4, found6, found_by, leased4}

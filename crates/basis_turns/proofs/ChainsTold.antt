@@ -7,10 +7,10 @@ use Rattle.net_types.specs.declared.address.Ip4.{Ip4}
 use Rattle.evidence_words.specs.Entries.{Entry}
 use Rattle.evidence_words.specs.Inputs.{Site, offers_at, contests}
 use Rattle.evidence_words.specs.Probed.{TurnWord, AsProbe, probe_taken}
-use Rattle.local_evidence.specs.LinkLocalBasis.{Anything}
+use Rattle.static_judge.specs.LocalEvidence.LinkLocalBasis.{Anything}
 use Rattle.probe_table.specs.ProbeTimes.{TurnTest, earlier_of, only_if, is_past, times_in}
 use Rattle.lease_judge.specs.ProbedTurns.{probed_in}
-use Rattle.local_judge.proofs.Calmness.{Tells}
+use Rattle.lease_judge.proofs.LocalJudge.Calmness.{Tells}
 use Rattle.basis_turns.specs.Chains.{is_same, stays, one_after, two_after, three_after, chain_in, fourth_after, probed_turns_in}
 use Rattle.basis_turns.specs.ProbedIn.{ProbesIn, ProbedIn}
 use Rattle.basis_turns.specs.declared.probes.ProbeChain.{ProbeChain}

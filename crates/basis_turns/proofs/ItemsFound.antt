@@ -13,16 +13,16 @@ use Rattle.v6_message.specs.Replies.{Content6}
 use Rattle.v6_client.specs.declared.setup.IaAsk.{IaAsk}
 use Rattle.evidence_words.specs.Entries.{Entry}
 use Rattle.evidence_words.specs.Inputs.{Site}
-use Rattle.lease6_evidence.specs.Exchanges6.{Numbered6}
-use Rattle.lease6_evidence.specs.ItemBasis.{Revises}
-use Rattle.lease6_evidence.specs.Replies6.{FirstReply, asks_at}
-use Rattle.lease6_judge.specs.HeardTerms.{heard_by, heard_in, if_unrevised, is_new, items_heard}
-use Rattle.lease6_judge.specs.Terms.{Term, if_left, is_held, is_left, not_held, revises, term_in_saids}
-use Rattle.lease6_judge.specs.Watching.{Replied, watch_in}
-use Rattle.lease6_judge.proofs.HeardTold.{came_good, first_new, good_of, has_good}
-use Rattle.lease6_judge.proofs.ItemsRead.{lasting_of}
-use Rattle.lease6_judge.proofs.Judging.{is_left_on, left_parts, none_not, one_reply, opposite}
-use Rattle.lease6_judge.proofs.TermsTold.{does_revise, given_in, held_longer}
+use Rattle.item_judge.specs.Lease6Evidence.Exchanges6.{Numbered6}
+use Rattle.item_judge.specs.Lease6Evidence.ItemBasis.{Revises}
+use Rattle.item_judge.specs.Lease6Evidence.Replies6.{FirstReply, asks_at}
+use Rattle.item_judge.specs.Lease6Judge.HeardTerms.{heard_by, heard_in, if_unrevised, is_new, items_heard}
+use Rattle.item_judge.specs.Lease6Judge.Terms.{Term, if_left, is_held, is_left, not_held, revises, term_in_saids}
+use Rattle.item_judge.specs.Lease6Judge.Watching.{Replied, watch_in}
+use Rattle.item_judge.proofs.Lease6Judge.HeardTold.{came_good, first_new, good_of, has_good}
+use Rattle.item_judge.proofs.Lease6Judge.ItemsRead.{lasting_of}
+use Rattle.item_judge.proofs.Lease6Judge.Judging.{is_left_on, left_parts, none_not, one_reply, opposite}
+use Rattle.item_judge.proofs.Lease6Judge.TermsTold.{does_revise, given_in, held_longer}
 use Rattle.item_judge.proofs.Giving.{addresses_given}
 use Rattle.item_judge.specs.Hearing.{gives_by, holder_in, holder_of, holds_in}
 use Rattle.item_judge.specs.Judging.{is_given, is_na}

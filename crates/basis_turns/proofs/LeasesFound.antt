@@ -12,12 +12,12 @@ use Rattle.v4_client.specs.declared.states.Answer4.TheVariants as answer
 use Rattle.evidence_words.specs.Entries.{Entry}
 use Rattle.evidence_words.specs.Inputs.{Site}
 use Rattle.evidence_words.specs.Probed.{TurnWord, Probed}
-use Rattle.local_evidence.specs.LinkLocalBasis.{Anything}
-use Rattle.lease_evidence.specs.Exchanges.{Numbered, messages_at, seen_in}
-use Rattle.lease_evidence.specs.LeaseBasis.{Calm, CalmFor, FirstAck, GrantsNothing, LeaseBasis}
-use Rattle.lease_evidence.specs.Replies.{reply_at}
-use Rattle.lease_evidence.proofs.Observed.{observes}
-use Rattle.lease_evidence.proofs.Observer.{Grant, Kept, Latest, Opens as Grows, kept, if_calm, answered_in, hears, kept_in, shown_all, ended_at, stays_at}
+use Rattle.static_judge.specs.LocalEvidence.LinkLocalBasis.{Anything}
+use Rattle.static_judge.specs.LeaseEvidence.Exchanges.{Numbered, messages_at, seen_in}
+use Rattle.static_judge.specs.LeaseEvidence.LeaseBasis.{Calm, CalmFor, FirstAck, GrantsNothing, LeaseBasis}
+use Rattle.static_judge.specs.LeaseEvidence.Replies.{reply_at}
+use Rattle.static_judge.proofs.LeaseEvidence.Observed.{observes}
+use Rattle.static_judge.proofs.LeaseEvidence.Observer.{Grant, Kept, Latest, Opens as Grows, kept, if_calm, answered_in, hears, kept_in, shown_all, ended_at, stays_at}
 use Rattle.lease_judge.specs.Judge.{Granted, judge_in}
 use Rattle.lease_judge.specs.Laws.{IsGranted}
 use Rattle.lease_judge.specs.Leased.{is_leased}

@@ -10,19 +10,19 @@ use Rattle.net_types.specs.declared.address.Net.TheVariants.{V4, V6}
 use Rattle.net_types.specs.declared.address.Net4.{Net4}
 use Rattle.net_types.specs.declared.address.Net6.{Net6}
 use Rattle.ipv4ll.specs.Choice.{IsChoice}
-use Rattle.client_model.specs.WantedRows.{local_net}
+use Rattle.evidence_words.specs.ClientModel.WantedRows.{local_net}
 use Rattle.evidence_words.specs.Entries.{Entry}
 use Rattle.evidence_words.specs.Inputs.{Site, uses, StaysOn}
 use Rattle.evidence_words.specs.Probed.{EachAfter, Probed}
-use Rattle.local_evidence.specs.LinkLocalBasis.{Anything, IsAlone, UsesApart, LinkLocalBasis}
+use Rattle.static_judge.specs.LocalEvidence.LinkLocalBasis.{Anything, IsAlone, UsesApart, LinkLocalBasis}
 use Rattle.probe_table.specs.ProbeTimes.{only_if}
-use Rattle.local_judge.specs.Choices.{choice_after, choice_in, choice_turn, chosen_at, is_alone, is_apart, is_calm}
-use Rattle.local_judge.specs.Judge.{gives_in, in_range}
-use Rattle.local_judge.specs.declared.choices.Choice.{Choice}
-use Rattle.local_judge.specs.declared.choices.ChoiceTurn.{ChoiceTurn}
-use Rattle.local_judge.proofs.Announcing.{alone}
-use Rattle.local_judge.proofs.Calmness.{calm_tells}
-use Rattle.local_judge.proofs.Telling.{bases}
+use Rattle.lease_judge.specs.LocalJudge.Choices.{choice_after, choice_in, choice_turn, chosen_at, is_alone, is_apart, is_calm}
+use Rattle.lease_judge.specs.LocalJudge.Judge.{gives_in, in_range}
+use Rattle.lease_judge.specs.LocalJudge.declared.choices.Choice.{Choice}
+use Rattle.lease_judge.specs.LocalJudge.declared.choices.ChoiceTurn.{ChoiceTurn}
+use Rattle.lease_judge.proofs.LocalJudge.Announcing.{alone}
+use Rattle.lease_judge.proofs.LocalJudge.Calmness.{calm_tells}
+use Rattle.lease_judge.proofs.LocalJudge.Telling.{bases}
 use Rattle.basis_turns.specs.Laws.{FoundLocalsAreShown}
 use Rattle.basis_turns.specs.LocalFinds.{begun_in, earliest_in, first_of, gone_on, latest_after, latest_in, no_fourth, probes_before, standing, turns_of}
 use Rattle.basis_turns.specs.LocalShown.{LocalShown}

@@ -4,10 +4,10 @@ use Rattle.std.specs.Option.{is_some}
 use Rattle.net_types.specs.declared.address.Net.{Net}
 use Rattle.evidence_words.specs.Entries.{Entry}
 use Rattle.evidence_words.specs.Inputs.{Site}
-use Rattle.evidence.specs.StaticBasis.{StaticBasis}
-use Rattle.lease_evidence.specs.LeaseBasis.{LeaseBasis}
-use Rattle.lease6_judge.specs.HeardBasis.{HeardAddressBasis}
-use Rattle.local_evidence.specs.LinkLocalBasis.{LinkLocalBasis}
+use Rattle.static_judge.specs.Evidence.StaticBasis.{StaticBasis}
+use Rattle.static_judge.specs.LeaseEvidence.LeaseBasis.{LeaseBasis}
+use Rattle.item_judge.specs.Lease6Judge.HeardBasis.{HeardAddressBasis}
+use Rattle.static_judge.specs.LocalEvidence.LinkLocalBasis.{LinkLocalBasis}
 use Rattle.basis_turns.specs.BasisFinds.{basis_found}
 use Rattle.basis_turns.specs.ItemShown.{ItemShown}
 use Rattle.basis_turns.specs.LeaseShown.{LeaseShown}

@@ -5,7 +5,7 @@ use Rattle.net_types.specs.declared.address.Net.TheVariants.{V6}
 use Rattle.net_types.specs.declared.address.Net6.{Net6}
 use Rattle.evidence_words.specs.Entries.{Entry}
 use Rattle.evidence_words.specs.Inputs.{Site}
-use Rattle.lease6_judge.specs.HeardBasis.{HeardAddressBasis}
+use Rattle.item_judge.specs.Lease6Judge.HeardBasis.{HeardAddressBasis}
 use Rattle.basis_turns.specs.ItemFinds.{item_found}
 use Rattle.basis_turns.specs.ItemShown.{ItemShown}
 

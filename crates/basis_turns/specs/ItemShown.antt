@@ -8,8 +8,8 @@ use Rattle.v6_options.specs.declared.ia.IaKind.TheVariants.{Na}
 use Rattle.v6_client.specs.declared.setup.IaAsk.{IaAsk}
 use Rattle.evidence_words.specs.Entries.{Entry}
 use Rattle.evidence_words.specs.Inputs.{Site}
-use Rattle.lease6_evidence.specs.Replies6.{asks_at}
-use Rattle.lease6_judge.specs.HeardBasis.{HeardItem, Spares}
+use Rattle.item_judge.specs.Lease6Evidence.Replies6.{asks_at}
+use Rattle.item_judge.specs.Lease6Judge.HeardBasis.{HeardItem, Spares}
 use Rattle.basis_turns.specs.Turns.{SinceTurn}
 use Rattle.basis_turns.specs.declared.items.ItemTurns.{ItemTurns}
 

@@ -4,8 +4,8 @@ use Rattle.std.specs.Option.{is_some}
 use Rattle.net_types.specs.declared.address.Net.{Net}
 use Rattle.evidence_words.specs.Entries.{Entry}
 use Rattle.evidence_words.specs.Inputs.{Site}
-use Rattle.lease_evidence.specs.LeaseBasis.{LeaseBasis}
-use Rattle.local_evidence.specs.LinkLocalBasis.{LinkLocalBasis}
+use Rattle.static_judge.specs.LeaseEvidence.LeaseBasis.{LeaseBasis}
+use Rattle.static_judge.specs.LocalEvidence.LinkLocalBasis.{LinkLocalBasis}
 use Rattle.basis_turns.specs.LeaseFinds.{lease_found}
 use Rattle.basis_turns.specs.LeaseShown.{LeaseShown}
 use Rattle.basis_turns.specs.LocalFinds.{local_found}

@@ -5,7 +5,7 @@ use Rattle.net_types.specs.declared.address.Net.{Net}
 use Rattle.net_types.specs.declared.address.Net.TheVariants.{V4, V6}
 use Rattle.evidence_words.specs.Entries.{Entry}
 use Rattle.evidence_words.specs.Inputs.{Site}
-use Rattle.lease_evidence.specs.Exchanges.{seen_in}
+use Rattle.static_judge.specs.LeaseEvidence.Exchanges.{seen_in}
 use Rattle.lease_judge.specs.Judge.{judge_in}
 use Rattle.lease_judge.specs.Leased.{is_leased}
 use Rattle.lease_judge.specs.Numbers.{granted_number, open_number}

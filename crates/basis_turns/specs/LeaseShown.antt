@@ -7,9 +7,9 @@ use Rattle.lease_text.specs.declared.lease.Terms4.{Terms4}
 use Rattle.v4_client.specs.Answers.{is_unexpired}
 use Rattle.evidence_words.specs.Entries.{Entry}
 use Rattle.evidence_words.specs.Inputs.{Site}
-use Rattle.lease_evidence.specs.Exchanges.{Numbered, seen_in}
-use Rattle.lease_evidence.specs.LeaseBasis.{Calm, CalmFor, FirstAck, LeaseBasis}
-use Rattle.local_evidence.specs.LinkLocalBasis.{Anything}
+use Rattle.static_judge.specs.LeaseEvidence.Exchanges.{Numbered, seen_in}
+use Rattle.static_judge.specs.LeaseEvidence.LeaseBasis.{Calm, CalmFor, FirstAck, LeaseBasis}
+use Rattle.static_judge.specs.LocalEvidence.LinkLocalBasis.{Anything}
 use Rattle.basis_turns.specs.ProbedIn.{ProbedIn}
 use Rattle.basis_turns.specs.Turns.{SinceTurn}
 use Rattle.basis_turns.specs.declared.leases.LeaseTurns.{LeaseTurns}

@@ -3,7 +3,7 @@ use Rattle.std.specs.Prelude.{◌≡◌, List, length}
 use Rattle.net_types.specs.declared.address.Net.{Net}
 use Rattle.evidence_words.specs.Entries.{Entry}
 use Rattle.evidence_words.specs.Inputs.{Site, StaysOn}
-use Rattle.local_evidence.specs.LinkLocalBasis.{Anything, LinkLocalBasis}
+use Rattle.static_judge.specs.LocalEvidence.LinkLocalBasis.{Anything, LinkLocalBasis}
 use Rattle.basis_turns.specs.ProbedIn.{ProbesIn, three_of}
 use Rattle.basis_turns.specs.declared.probes.ProbedTurns.{ProbedTurns}
 

@@ -11,7 +11,7 @@ use Rattle.resolver_text.specs.declared.part.Part.{Part}
 use Rattle.resolver_text.specs.Parts.{PartContent, part_content, parts_content}
 use Rattle.resolver_text.specs.ResolverText.{resolver_text}
 use Rattle.settings.specs.declared.interfaces.Managed.{Managed}
-use Rattle.v4_client.specs.Clients.{held_of}
+use Rattle.client_model.specs.V4Client.Clients.{held_of}
 use Rattle.v6_client.specs.Clients as dhcp6
 use Rattle.client_model.specs.declared.interfaces.Iface.{Iface}
 use Rattle.client_model.specs.ResolverParts.{has_part4, iface_parts, part4_with, parts6, resolver_parts, resolver_wanted, some_text}

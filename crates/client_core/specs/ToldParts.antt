@@ -6,7 +6,7 @@ use Rattle.resolver_text.specs.declared.part.Family.TheVariants.{V4, V6}
 use Rattle.resolver_text.specs.declared.part.Part.{Part}
 use Rattle.resolver_text.specs.Parts.{PartContent}
 use Rattle.lease6_text.specs.Leases.{Lease6Content}
-use Rattle.v4_client.specs.Clients.{held_of}
+use Rattle.client_model.specs.V4Client.Clients.{held_of}
 use Rattle.v6_client.specs.Clients as dhcp6
 use Rattle.settings.specs.declared.interfaces.Managed.{Managed}
 use Rattle.client_model.specs.declared.interfaces.Iface.{Iface}

@@ -3,8 +3,8 @@ use Rattle.std.proofs.Common.{ℕ, ◌≡◌, ◌<◌, ◌≤◌, List, length, 
 use Rattle.std.specs.Int.{w32, to_be_bytes}
 use Rattle.std.proofs.lemmas.List.{length-append, length-take}
 use Rattle.net_types.specs.declared.interface.IfSpec.{IfSpec}
-use Rattle.lease6_text.specs.Bounds.{IsDuid}
-use Rattle.v4_message.specs.Requests.{AskFits}
+use Rattle.v6_client.specs.Lease6Text.Bounds.{IsDuid}
+use Rattle.v4_client.specs.V4Message.Requests.{AskFits}
 use Rattle.settings.specs.declared.interfaces.Managed.{Managed}
 use Rattle.settings.specs.Dhcp4Settings.{IdentifierContent, Hardware, Bytes, Duid, FitsIdentifier}
 use Rattle.settings.specs.Fitting.{FitsManaged}

@@ -8,7 +8,7 @@ use Rattle.net_types.specs.Marks.{AreBytes}
 use Rattle.net_types.proofs.HexLaws.{cons_bytes}
 use Rattle.duid_text.specs.DuidTexts.{duid_spelled, link_layer_duid}
 use Rattle.duid_text.proofs.DuidLaws.{spells_one}
-use Rattle.lease6_text.specs.Bounds.{IsDuid}
+use Rattle.v6_client.specs.Lease6Text.Bounds.{IsDuid}
 use Rattle.world.specs.StoreCalls.{Reading, Found, Missing, Unread}
 use Rattle.client_model.specs.Fitting.{HostDuidFits}
 use Rattle.client_model.specs.HostDuid.{duid_by, made_duid}

@@ -16,17 +16,17 @@ use Rattle.world.specs.declared.rows.HostRow.{HostRow}
 use Rattle.world.specs.declared.rows.HostRow.TheVariants.{Addr, Route}
 use Rattle.world.specs.declared.rows.Via.TheVariants.{OnLink, Reject, Gate4}
 use Rattle.world.specs.RowOrder.{row_iface, row_cmp, with_row, put_in_order}
-use Rattle.prefix_share.specs.Subnets.{subnet_in}
+use Rattle.settings.specs.PrefixShare.Subnets.{subnet_in}
 use Rattle.settings.specs.declared.dhcp6_conf.ShareConf.{ShareConf}
 use Rattle.settings.specs.declared.interfaces.Managed.{Managed}
 use Rattle.ipv4ll.specs.Table.{held_in}
 use Rattle.v4_options.specs.declared.routes.ClasslessRoute.{ClasslessRoute}
-use Rattle.lease_text.specs.Leases.{LeaseContent}
+use Rattle.v4_client.specs.LeaseText.Leases.{LeaseContent}
 use Rattle.v4_client.specs.Clients.{held_of}
 use Rattle.v6_options.specs.declared.ia.IaKind.{IaKind}
 use Rattle.v6_options.specs.declared.ia.IaKind.TheVariants.{Na, Pd}
-use Rattle.lease6_text.specs.declared.lease.Item6.{Item6}
-use Rattle.lease6_text.specs.Leases.{IaLeaseContent, Lease6Content}
+use Rattle.v6_client.specs.Lease6Text.declared.lease.Item6.{Item6}
+use Rattle.v6_client.specs.Lease6Text.Leases.{IaLeaseContent, Lease6Content}
 use Rattle.v6_client.specs.Clients as dhcp6
 use Rattle.settings.specs.declared.outlet.Outlet.{Outlet}
 use Rattle.client_model.specs.declared.interfaces.Iface.{Iface}

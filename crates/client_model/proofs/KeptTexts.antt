@@ -3,10 +3,10 @@ use Rattle.std.proofs.Common.{ℕ, List}
 use Rattle.net_types.specs.declared.fault.BadText.{BadText}
 use Rattle.net_types.specs.LineFormats.{LineLaws}
 use Rattle.net_types.specs.TextLines.{Front}
-use Rattle.lease_text.specs.Leases.{LeaseContent}
-use Rattle.lease_text.specs.LeaseLines.{SpellsLease4}
-use Rattle.lease_text.specs.LeaseReading.{Reading, step, given, start, After, AnyCause}
-use Rattle.lease_text.proofs.ReadingLaws.{lease_laws}
+use Rattle.v4_client.specs.LeaseText.Leases.{LeaseContent}
+use Rattle.v4_client.specs.LeaseText.LeaseLines.{SpellsLease4}
+use Rattle.v4_client.specs.LeaseText.LeaseReading.{Reading, step, given, start, After, AnyCause}
+use Rattle.v4_client.proofs.LeaseText.ReadingLaws.{lease_laws}
 use Rattle.client_model.specs.KeptLeases.{IsReading, lease_spelled}
 use Rattle.client_model.proofs.SpelledTexts.{spelled_by, spells_it}
 

@@ -3,11 +3,11 @@ use Rattle.std.proofs.Common.{ℕ, List}
 use Rattle.net_types.specs.declared.fault.BadText.{BadText}
 use Rattle.net_types.specs.LineFormats.{LineLaws}
 use Rattle.net_types.specs.TextLines.{Front}
-use Rattle.lease6_text.specs.Leases.{Lease6Content}
-use Rattle.lease6_text.specs.LeaseLines.{SpellsLease6}
-use Rattle.lease6_text.specs.LeaseReading.{Reading, step, given, start}
-use Rattle.lease6_text.specs.LinesRead.{After, AnyCause}
-use Rattle.lease6_text.proofs.ReadingLaws.{lease6_laws}
+use Rattle.v6_client.specs.Lease6Text.Leases.{Lease6Content}
+use Rattle.v6_client.specs.Lease6Text.LeaseLines.{SpellsLease6}
+use Rattle.v6_client.specs.Lease6Text.LeaseReading.{Reading, step, given, start}
+use Rattle.v6_client.specs.Lease6Text.LinesRead.{After, AnyCause}
+use Rattle.v6_client.proofs.Lease6Text.ReadingLaws.{lease6_laws}
 use Rattle.client_model.specs.KeptLeases6.{IsReading6, lease6_spelled}
 use Rattle.client_model.proofs.SpelledTexts.{spelled_by, spells_it}
 

@@ -13,3 +13,5 @@ pub mod KeptTexts6
 mod QuietLeases
 pub mod QuietTurns
 pub mod QuietKept
+pub use Rattle.v4_client.proofs.ArpAcd
+pub use Rattle.host_model.proofs as HostModel

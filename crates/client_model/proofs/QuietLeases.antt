@@ -4,13 +4,13 @@ use Rattle.net_types.proofs.CaseLaws.{gated}
 use Rattle.net_types.specs.declared.address.Mac.{Mac}
 use Rattle.net_types.specs.declared.interface.Name.{Name}
 use Rattle.frame_link.specs.declared.arp.ArpView.{ArpView}
-use Rattle.machine.specs.Moment.{is_due}
-use Rattle.arp_acd.specs.declared.detection.Acd.{Acd}
-use Rattle.arp_acd.specs.declared.detection.AcdSays.{AcdSays}
-use Rattle.arp_acd.specs.declared.detection.AcdSays.TheVariants.{Quiet, SayProbe, SayAnnounce, Passed, Conflict, GivenUp}
-use Rattle.arp_acd.specs.Table as detection
-use Rattle.lease_text.specs.declared.lease.Terms4.{Terms4}
-use Rattle.lease_text.specs.Leases.{LeaseContent, ValueContent}
+use Rattle.v4_client.specs.Machine.Moment.{is_due}
+use Rattle.v4_client.specs.ArpAcd.declared.detection.Acd.{Acd}
+use Rattle.v4_client.specs.ArpAcd.declared.detection.AcdSays.{AcdSays}
+use Rattle.v4_client.specs.ArpAcd.declared.detection.AcdSays.TheVariants.{Quiet, SayProbe, SayAnnounce, Passed, Conflict, GivenUp}
+use Rattle.v4_client.specs.ArpAcd.Table as detection
+use Rattle.v4_client.specs.LeaseText.declared.lease.Terms4.{Terms4}
+use Rattle.v4_client.specs.LeaseText.Leases.{LeaseContent, ValueContent}
 use Rattle.v4_client.specs.declared.moments.Backoff.{Backoff}
 use Rattle.v4_client.specs.declared.moments.Backoff.TheVariants.{Four}
 use Rattle.v4_client.specs.declared.states.Answer4.{Answer4}

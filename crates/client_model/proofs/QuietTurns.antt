@@ -6,11 +6,11 @@ use Rattle.net_types.specs.declared.address.Ip4.{Ip4}
 use Rattle.net_types.specs.declared.address.Mac.{Mac}
 use Rattle.net_types.specs.declared.interface.IfIndex.{IfIndex}
 use Rattle.frame_link.specs.declared.arp.ArpView.{ArpView}
-use Rattle.arp_acd.specs.declared.detection.Phase.{Phase}
-use Rattle.arp_acd.specs.declared.detection.Phase.TheVariants.{Probing, Announcing, Held, Over}
-use Rattle.arp_acd.specs.Conflict.{is_used, is_contested}
-use Rattle.arp_acd.specs.Table as detection
-use Rattle.arp_acd.proofs.Standing.{mk}
+use Rattle.v4_client.specs.ArpAcd.declared.detection.Phase.{Phase}
+use Rattle.v4_client.specs.ArpAcd.declared.detection.Phase.TheVariants.{Probing, Announcing, Held, Over}
+use Rattle.v4_client.specs.ArpAcd.Conflict.{is_used, is_contested}
+use Rattle.v4_client.specs.ArpAcd.Table as detection
+use Rattle.v4_client.proofs.ArpAcd.Standing.{mk}
 use Rattle.ipv4ll.specs.declared.link_local.LinkLocal.{LinkLocal}
 use Rattle.ipv4ll.specs.declared.link_local.LlNews.{LlNews}
 use Rattle.ipv4ll.specs.declared.link_local.LlNews.TheVariants.{Nothing, Timeout, Gained, Lost}
@@ -22,7 +22,7 @@ use Rattle.ipv4ll.specs.declared.link_local.Fallback.{Fallback}
 use Rattle.ipv4ll.specs.declared.link_local.Fallback.TheVariants.{Choose}
 use Rattle.ipv4ll.specs.Table.{chooses, LlStep, moves, tells, choosing, after_conflict, one_more, tick_row, ll_tick, ll_hears, ll_restarts, ll_armed, held_in}
 use Rattle.net_types.specs.declared.address.Ip6.{Ip6}
-use Rattle.v4_frames.specs.Heard.{HeardMessage, heard4_in}
+use Rattle.v4_client.specs.V4Frames.Heard.{HeardMessage, heard4_in}
 use Rattle.v6_frames.specs.Heard.{HeardMessage6, heard6_in}
 use Rattle.v6_client.specs.declared.states.News6.{News6}
 use Rattle.v6_client.specs.declared.states.News6.TheVariants as news6

@@ -4,7 +4,7 @@ use Rattle.net_types.proofs.CaseLaws.{gated}
 use Rattle.net_types.specs.declared.address.Mac.{Mac}
 use Rattle.frame_link.specs.declared.arp.ArpView.{ArpView}
 use Rattle.net_types.specs.declared.address.Ip6.{Ip6}
-use Rattle.v4_frames.specs.Heard.{HeardMessage, heard4_in}
+use Rattle.v4_client.specs.V4Frames.Heard.{HeardMessage, heard4_in}
 use Rattle.v6_frames.specs.Heard.{HeardMessage6, heard6_in}
 use Rattle.v4_client.specs.Calls.{carrier_step, rebind_step}
 use Rattle.v4_client.specs.declared.states.Carrier.TheVariants.{Up}

@@ -3,7 +3,7 @@
 use Rattle.std.specs.Prelude.{ℕ, Bool, not, ◌&&◌, if◌then◌else◌, List, [], ◌∷◌, ◌++◌, filter, take, is_none}
 use Rattle.std.specs.Int.{w32, to_be_bytes}
 use Rattle.net_types.specs.declared.interface.IfSpec.{IfSpec}
-use Rattle.v4_message.specs.Requests.{AskContent}
+use Rattle.v4_client.specs.V4Message.Requests.{AskContent}
 use Rattle.v4_client.specs.declared.setup.Site4.{Site4}
 use Rattle.v4_client.specs.Messages.{is_among}
 use Rattle.v4_client.specs.Settings.{SettingsContent}

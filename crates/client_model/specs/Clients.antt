@@ -4,15 +4,15 @@ use Rattle.net_types.specs.declared.address.Mac.{Mac}
 use Rattle.net_types.specs.declared.interface.IfIndex.{IfIndex}
 use Rattle.net_types.specs.declared.interface.IfSpec.{IfSpec}
 use Rattle.frame_link.specs.Packets.{probe_text, announcement_text}
-use Rattle.machine.specs.Moment.{moment_of}
-use Rattle.lease_text.specs.Leases.{LeaseContent}
-use Rattle.lease6_text.specs.Leases.{Lease6Content}
-use Rattle.v4_message.specs.Requests.{AskContent}
-use Rattle.v4_frames.specs.Spelled as dhcp4
+use Rattle.v4_client.specs.Machine.Moment.{moment_of}
+use Rattle.v4_client.specs.LeaseText.Leases.{LeaseContent}
+use Rattle.v6_client.specs.Lease6Text.Leases.{Lease6Content}
+use Rattle.v4_client.specs.V4Message.Requests.{AskContent}
+use Rattle.v4_client.specs.V4Frames.Spelled as dhcp4
 use Rattle.v6_frames.specs.Spelled.{frame6_of}
 pub use Rattle.v4_client.specs.Moments.{earlier}
 use Rattle.v4_client.specs.Saying.{sent_of}
-use Rattle.arp_acd.specs.declared.detection.ArpSay.TheVariants.{Probe, Announce}
+use Rattle.v4_client.specs.ArpAcd.declared.detection.ArpSay.TheVariants.{Probe, Announce}
 use Rattle.world.specs.HookCalls.{Job}
 use Rattle.world.specs.declared.rows.HostRow.{HostRow}
 use Rattle.world.specs.declared.wakes.Begin.{Begin}

@@ -4,7 +4,7 @@ use Rattle.net_types.specs.declared.address.Mac.{Mac}
 use Rattle.frame_link.specs.declared.arp.ArpView.{ArpView}
 use Rattle.ipv4ll.specs.declared.link_local.LinkLocal.{LinkLocal}
 use Rattle.ipv4ll.specs.Table.{off}
-use Rattle.v4_frames.specs.Heard.{HeardMessage}
+use Rattle.v4_client.specs.V4Frames.Heard.{HeardMessage}
 use Rattle.v4_client.specs.declared.states.Carrier.TheVariants.{Up, Down}
 use Rattle.v4_client.specs.declared.states.News4.{News4}
 use Rattle.v4_client.specs.declared.states.News4.TheVariants as news

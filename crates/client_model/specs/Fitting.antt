@@ -4,9 +4,9 @@ use Rattle.std.specs.List.{AllByRecursion}
 use Rattle.net_types.specs.AddressText.{FitsMac}
 use Rattle.ipv4ll.specs.Choice.{IsChoice}
 use Rattle.ipv4ll.specs.Laws.{chosen_address}
-use Rattle.lease_text.specs.Bounds.{FitsLease}
-use Rattle.lease6_text.specs.Bounds.{HasText6, IsDuid}
-use Rattle.v4_message.specs.Requests.{AskFits}
+use Rattle.v4_client.specs.LeaseText.Bounds.{FitsLease}
+use Rattle.v6_client.specs.Lease6Text.Bounds.{HasText6, IsDuid}
+use Rattle.v4_client.specs.V4Message.Requests.{AskFits}
 use Rattle.world.specs.StoreCalls.{Reading}
 use Rattle.settings.specs.declared.interfaces.Managed.{Managed}
 use Rattle.settings.specs.Fitting.{FitsManaged}

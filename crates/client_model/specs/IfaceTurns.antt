@@ -4,7 +4,7 @@ use Rattle.net_types.specs.declared.address.Mac.{Mac}
 use Rattle.frame_link.specs.declared.arp.ArpView.{ArpView}
 use Rattle.frame_link.specs.Frames.{Frame as EthernetFrame, frame_in}
 use Rattle.frame_link.specs.Packets.{arp_kind, arp_in}
-use Rattle.v4_frames.specs.Heard.{HeardMessage, heard4_in}
+use Rattle.v4_client.specs.V4Frames.Heard.{HeardMessage, heard4_in}
 use Rattle.v6_frames.specs.Heard.{HeardMessage6, heard6_in}
 use Rattle.world.specs.declared.wakes.Event.{Event}
 use Rattle.world.specs.declared.wakes.Event.TheVariants.{Frame, Carrier, Duplicate, Release, Rebind, Stop, Quiet, End}

@@ -4,10 +4,10 @@ use Rattle.net_types.specs.declared.address.Ip4.{Ip4}
 use Rattle.net_types.specs.declared.address.Net4.{Net4}
 use Rattle.net_types.specs.declared.address.Net6.{Net6}
 use Rattle.ipv4ll.specs.Table.{held_in}
-use Rattle.prefix_share.specs.Subnets.{subnet_in}
-use Rattle.lease_text.specs.Leases.{LeaseContent}
-use Rattle.lease6_text.specs.declared.lease.Item6.{Item6}
-use Rattle.lease6_text.specs.Leases.{IaLeaseContent, Lease6Content}
+use Rattle.settings.specs.PrefixShare.Subnets.{subnet_in}
+use Rattle.v4_client.specs.LeaseText.Leases.{LeaseContent}
+use Rattle.v6_client.specs.Lease6Text.declared.lease.Item6.{Item6}
+use Rattle.v6_client.specs.Lease6Text.Leases.{IaLeaseContent, Lease6Content}
 use Rattle.v4_client.specs.declared.states.News4.{News4}
 use Rattle.v4_client.specs.declared.states.News4.TheVariants as news4
 use Rattle.v4_client.specs.Clients.{held_of}

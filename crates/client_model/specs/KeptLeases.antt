@@ -7,11 +7,11 @@ use Rattle.net_types.specs.FirstBadLine.{IsSpelled}
 use Rattle.net_types.specs.LineReading.{run}
 use Rattle.net_types.specs.NameText.{name_text}
 use Rattle.net_types.specs.TextLines.{Line}
-use Rattle.lease_text.specs.declared.lease.Origin.{Origin}
-use Rattle.lease_text.specs.LeaseLines.{SpellsLease4}
-use Rattle.lease_text.specs.LeaseReading.{step, start, given}
-use Rattle.lease_text.specs.Leases.{LeaseContent}
-use Rattle.lease6_text.specs.Leases.{Lease6Content}
+use Rattle.v4_client.specs.LeaseText.declared.lease.Origin.{Origin}
+use Rattle.v4_client.specs.LeaseText.LeaseLines.{SpellsLease4}
+use Rattle.v4_client.specs.LeaseText.LeaseReading.{step, start, given}
+use Rattle.v4_client.specs.LeaseText.Leases.{LeaseContent}
+use Rattle.v6_client.specs.Lease6Text.Leases.{Lease6Content}
 use Rattle.world.specs.StoreCalls.{Reading, Found, Missing, Unread}
 use Rattle.settings.specs.declared.interfaces.Managed.{Managed}
 use Rattle.client_model.specs.TextsByLine.{lines_in}

@@ -5,9 +5,9 @@ use Rattle.net_types.specs.declared.interface.IfSpec.{IfSpec}
 use Rattle.net_types.specs.FirstBadLine.{IsSpelled}
 use Rattle.net_types.specs.LineReading.{run}
 use Rattle.net_types.specs.TextLines.{Line}
-use Rattle.lease6_text.specs.LeaseLines.{SpellsLease6}
-use Rattle.lease6_text.specs.LeaseReading.{step, start, given}
-use Rattle.lease6_text.specs.Leases.{Lease6Content}
+use Rattle.v6_client.specs.Lease6Text.LeaseLines.{SpellsLease6}
+use Rattle.v6_client.specs.Lease6Text.LeaseReading.{step, start, given}
+use Rattle.v6_client.specs.Lease6Text.Leases.{Lease6Content}
 use Rattle.world.specs.StoreCalls.{Reading, Found, Missing, Unread}
 use Rattle.client_model.specs.KeptLeases.{is_own}
 use Rattle.client_model.specs.TextsByLine.{lines_in}

@@ -1,5 +1,5 @@
 -- What an interface says: a message of one of its protocols.
-use Rattle.arp_acd.specs.declared.detection.ArpSay.{ArpSay}
+use Rattle.v4_client.specs.ArpAcd.declared.detection.ArpSay.{ArpSay}
 use Rattle.v4_client.specs.declared.states.Say4.{Say4}
 use Rattle.v6_frames.specs.Spelled.{Sent6}
 

@@ -1,14 +1,14 @@
 -- What the interfaces tell the resolver (resolv.conf(5)).
 use Rattle.std.specs.Prelude.{ℕ, Bool, ◌&&◌, ◌||◌, if◌then◌else◌, List, [], ◌∷◌, ◌++◌, flat_map, map, Option, Some, None, option_and_then, unwrap_or}
 use Rattle.std.specs.Option.{is_some}
-use Rattle.domain_names.specs.NameText.{text_in}
-use Rattle.domain_names.specs.SearchList.{search_in}
+use Rattle.v4_options.specs.DomainNames.NameText.{text_in}
+use Rattle.v4_options.specs.DomainNames.SearchList.{search_in}
 use Rattle.v4_options.specs.declared.code.TheConstants.{DOMAIN_NAME, DOMAIN_NAME_SERVERS, DOMAIN_SEARCH}
 use Rattle.v4_options.specs.Numbers.{addrs_in}
 use Rattle.v6_options.specs.declared.code.TheConstants.{DNS_SERVERS, DOMAIN_LIST}
 use Rattle.v6_options.specs.Readers.{dns6_in, search6_in}
-use Rattle.lease_text.specs.Leases.{LeaseContent, ValueContent}
-use Rattle.lease6_text.specs.Leases.{Lease6Content}
+use Rattle.v4_client.specs.LeaseText.Leases.{LeaseContent, ValueContent}
+use Rattle.v6_client.specs.Lease6Text.Leases.{Lease6Content}
 use Rattle.resolver_text.specs.declared.part.Family.{Family}
 use Rattle.resolver_text.specs.declared.part.Family.TheVariants as family
 use Rattle.resolver_text.specs.declared.part.Server.{Server}

@@ -16,11 +16,11 @@ use Rattle.v4_options.specs.declared.code.TheConstants.{CLASSLESS_ROUTES, ROUTER
 use Rattle.v4_options.specs.declared.routes.ClasslessRoute.{ClasslessRoute}
 use Rattle.v4_options.specs.Numbers.{addrs_in}
 use Rattle.v4_options.specs.Routes.{routes_in}
-use Rattle.prefix_share.specs.Subnets.{network_number, subnet_in}
-use Rattle.lease_text.specs.Leases.{ValueContent, LeaseContent}
+use Rattle.settings.specs.PrefixShare.Subnets.{network_number, subnet_in}
+use Rattle.v4_client.specs.LeaseText.Leases.{ValueContent, LeaseContent}
 use Rattle.v4_client.specs.Clients.{held_of}
-use Rattle.lease6_text.specs.declared.lease.Item6.{Item6}
-use Rattle.lease6_text.specs.Leases.{IaLeaseContent, Lease6Content}
+use Rattle.v6_client.specs.Lease6Text.declared.lease.Item6.{Item6}
+use Rattle.v6_client.specs.Lease6Text.Leases.{IaLeaseContent, Lease6Content}
 use Rattle.v6_client.specs.Clients as dhcp6
 use Rattle.v6_options.specs.declared.ia.IaKind.{IaKind}
 use Rattle.v6_options.specs.declared.ia.IaKind.TheVariants.{Na, Pd}

@@ -3,8 +3,8 @@
 
 ghost use Rattle.std.specs.Prelude.{ℕ, List, map};
 ghost use Rattle.net_types.specs.declared.address.Mac.{Mac};
-ghost use Rattle.lease_text.specs.Leases.{LeaseContent};
-ghost use Rattle.lease6_text.specs.Leases.{Lease6Content};
+ghost use Rattle.v4_client.specs.LeaseText.Leases.{LeaseContent};
+ghost use Rattle.v6_client.specs.Lease6Text.Leases.{Lease6Content};
 ghost use Rattle.world.specs.declared.rows.HostRow.{HostRow};
 ghost use Rattle.world.specs.RowOrder.{in_row_order};
 ghost use Rattle.settings.specs.ManagedRows.{SharesAreManaged};

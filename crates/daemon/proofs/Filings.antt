@@ -20,8 +20,8 @@ use Rattle.turn_model.specs.Turns.{Life, turn_asks}
 use Rattle.turn_model.specs.Opening.{opening_asks}
 use Rattle.turn_model.specs.Lives.{OpeningMet, IsOpening, Met, IsTurn, AreTurns, IsLast, life_after, turn_calls, turns_calls}
 use Rattle.turn_model.specs.LifeFronts.{FrontOfTurn, FrontOfLife}
-use Rattle.file_evidence.specs.WholeFiles.{FilesStayWhole}
-use Rattle.file_evidence.proofs.KeepingTurns.{life_stays_whole}
+use Rattle.exact_texts.specs.FileEvidence.WholeFiles.{FilesStayWhole}
+use Rattle.exact_texts.proofs.FileEvidence.KeepingTurns.{life_stays_whole}
 use Rattle.daemon.specs.declared.serving.ServeEnd.{ServeEnd}
 use Rattle.daemon.specs.declared.serving.ServeEnd.TheVariants as ends
 use Rattle.daemon.specs.Waits.{OnlyLink}

@@ -25,3 +25,6 @@ pub mod Wakings
 pub mod Filings
 pub mod ToldLives
 pub mod Whole
+pub use Rattle.exact_texts.proofs as ExactTexts
+pub use Rattle.exact_texts.proofs.FileEvidence
+pub use Rattle.exact_texts.proofs.SafeTexts

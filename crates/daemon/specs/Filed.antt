@@ -7,7 +7,7 @@ use Rattle.device_calls.specs.Calls.{Call, store_call}
 use Rattle.device_calls.specs.Worlds.{Seen}
 use Rattle.device_calls.specs.Faults.{CountsEach}
 use Rattle.turn_model.specs.LifeFronts.{FrontOfLife}
-use Rattle.file_evidence.specs.WholeFiles.{FilesStayWhole}
+use Rattle.exact_texts.specs.FileEvidence.WholeFiles.{FilesStayWhole}
 
 -- The calls of a life up to a moment were made. The store answered its own, and no other, and left its files as it
 -- answered; at each moment of them, over a sound store, each file was whole, whether or not it is told which calls

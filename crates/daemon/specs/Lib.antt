@@ -13,3 +13,6 @@ pub mod Waking
 pub mod Cuts
 pub mod Served
 pub mod Filed
+pub use Rattle.exact_texts.specs as ExactTexts
+pub use Rattle.exact_texts.specs.FileEvidence
+pub use Rattle.exact_texts.specs.SafeTexts

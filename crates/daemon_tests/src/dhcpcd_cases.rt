@@ -3,8 +3,7 @@
 
 ghost use Rattle.std.specs.Prelude.{◌≡◌, false, IfOk};
 
-use daemon::Devices;
-use dhcpcd::{Status, run};
+use dhcpcd::{Devices, Status, run};
 use std::alloc::Global;
 use std::test::Fail;
 use world::{Begin, Event, Wake};

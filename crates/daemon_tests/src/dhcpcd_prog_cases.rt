@@ -1,6 +1,6 @@
 //! The loop over the link of this machine.
 
-use daemon::{Devices, ServeEnd, serve};
+use dhcpcd::{Devices, ServeEnd, serve};
 use edges::{LoopLink, SystemChildren, SystemLoopback};
 use std::net::{Ipv4Addr, UdpSocket};
 use std::test::Fail;

@@ -4,8 +4,8 @@ use Rattle.std.specs.Prelude.{map}
 use Rattle.std.proofs.lemmas.List.{take_more, map-append}
 use Rattle.std.proofs.lemmas.List.Concat.{flat_map-append}
 use Rattle.world.specs.declared.rows.HostRow.{HostRow}
-use Rattle.script_model.specs.Lines.{Line, line_text, lines_text}
-use Rattle.script_model.specs.Lines as lines
+use Rattle.typed_lines.specs.ScriptModel.Lines.{Line, line_text, lines_text}
+use Rattle.typed_lines.specs.ScriptModel.Lines as lines
 use Rattle.typed_lines.specs.TypedLines.{IsTyped}
 use Rattle.typed_lines.proofs.TypedParts.{typed_both}
 use Rattle.device_calls.specs.Printing.{Prints}

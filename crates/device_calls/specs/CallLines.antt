@@ -4,8 +4,8 @@ use Rattle.world.specs.LinkCalls.{LinkCall, Waited, Offered}
 use Rattle.world.specs.HostCalls.{HostCall, Listed, Added, Removed}
 use Rattle.world.specs.StoreCalls.{StoreCall, ListedAsides, ReadFile, WroteAside, SyncedAside, RenamedAside, RemovedFile, SettledFiles}
 use Rattle.world.specs.HookCalls.{HookCall, Job, Variable, Started, Polled, Abandoned}
-use Rattle.script_model.specs.Lines as lines
-use Rattle.script_model.specs.Lines.{Line}
+use Rattle.typed_lines.specs.ScriptModel.Lines as lines
+use Rattle.typed_lines.specs.ScriptModel.Lines.{Line}
 use Rattle.device_calls.specs.Calls.{Call, Link, Host, Store, Hook, Dropped}
 
 -- (a wait has no line of its own: the turn line says what came)

@@ -1,10 +1,10 @@
 -- What `audit` makes of an input, and `audit why`: one thing, and over streams that don't fail what is due.
 use Rattle.std.proofs.Common.{ℕ, ◌≡◌, ◌<◌, ◌≤◌, Bool, true, false, List, [], ◌++◌, length, Option, Some, refl, sym, subst, ap, ◌∙◌, append-nil, arith}
 use Rattle.world.specs.declared.rows.HostRow.{HostRow}
-use Rattle.transcript_audit.specs.declared.verdict.Verdict.{Verdict}
-use Rattle.transcript_audit.specs.declared.verdict.Verdict.TheVariants.{Yes, No}
-use Rattle.transcript_audit.specs.Laws.{AVerdictIsOne}
-use Rattle.transcript_audit.specs.Verdicts.{IsJudged, NamesBad}
+use Rattle.audit_reasons.specs.TranscriptAudit.declared.verdict.Verdict.{Verdict}
+use Rattle.audit_reasons.specs.TranscriptAudit.declared.verdict.Verdict.TheVariants.{Yes, No}
+use Rattle.audit_reasons.specs.TranscriptAudit.Laws.{AVerdictIsOne}
+use Rattle.audit_reasons.specs.TranscriptAudit.Verdicts.{IsJudged, NamesBad}
 use Rattle.audit_reasons.specs.Accounts.{IsExplained}
 use Rattle.audit_reasons.specs.Texts.{lines_text}
 use Rattle.audit_reasons.specs.declared.line.BasisLine.{BasisLine}

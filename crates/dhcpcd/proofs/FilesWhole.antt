@@ -13,7 +13,7 @@ use Rattle.script_model.specs.Crashes.{CrashScript}
 use Rattle.script_model.specs.ScriptTexts.{ScriptLines, LifeScript}
 use Rattle.conf_text.specs.Configurations.{Configuration}
 use Rattle.turn_model.specs.Foretold.{foretold_life}
-use Rattle.file_evidence.proofs.StoreRuns.{foretold_whole}
+use Rattle.daemon.proofs.FileEvidence.StoreRuns.{foretold_whole}
 use Rattle.dhcpcd.specs.FilesHeld.{AllStayWhole}
 use Rattle.dhcpcd.specs.Replays.{managed_in, Failing, Between, failing_in, at_first, pick_of, store_left, world_in, after_life}
 use Rattle.dhcpcd.proofs.FilesRightly.{put_in_turn, picked_in_order}

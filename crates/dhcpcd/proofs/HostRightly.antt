@@ -26,14 +26,14 @@ use Rattle.host_model.proofs.HostTableRows.{in_order_sorted}
 use Rattle.turn_model.proofs.HostInLifeTurns.{opening_holds, turn_in_life}
 use Rattle.conf_text.specs.Configurations.{Configuration, IsConfOf}
 use Rattle.conf_text.specs.Settings.{managed_of}
-use Rattle.evidence.specs.Laws.{AreNumbered, AreSharedWithOthers}
-use Rattle.evidence.specs.HeldAddresses.{mets_of, RestOnEvidence}
-use Rattle.lease_evidence.proofs.Joining.{LeaseRelation}
-use Rattle.evidence.proofs.Items.{items_have_basis}
-use Rattle.evidence.proofs.Leasing.{leases_based}
-use Rattle.evidence.proofs.HostRests.{opening_rests, turns_rest}
-use Rattle.evidence.proofs.Starts.{opening_starts, plain_opening_starts}
-use Rattle.evidence.proofs.Foretold.{foretold}
+use Rattle.audit_reasons.specs.Evidence.Laws.{AreNumbered, AreSharedWithOthers}
+use Rattle.audit_reasons.specs.Evidence.HeldAddresses.{mets_of, RestOnEvidence}
+use Rattle.lab_laws.proofs.LeaseEvidence.Joining.{LeaseRelation}
+use Rattle.audit_reasons.proofs.Evidence.Items.{items_have_basis}
+use Rattle.audit_reasons.proofs.Evidence.Leasing.{leases_based}
+use Rattle.audit_reasons.proofs.Evidence.HostRests.{opening_rests, turns_rest}
+use Rattle.audit_reasons.proofs.Evidence.Starts.{opening_starts, plain_opening_starts}
+use Rattle.audit_reasons.proofs.Evidence.Foretold.{foretold}
 use Rattle.dhcpcd.specs.Replays.{IsScript, configuration_text, managed_in, failing_in, at_first, Failing, Between, world_in, after_life}
 use Rattle.turn_model.specs.FilesInLife.{AreNamedApart}
 use Rattle.dhcpcd.proofs.FilesRightly.{apart}

@@ -9,7 +9,7 @@ use Rattle.world.specs.HostCalls.{Listed, Added, Removed}
 use Rattle.world.specs.LinkCalls.{Waited, Offered}
 use Rattle.world.specs.StoreCalls.{ListedAsides, ReadFile, WroteAside, SyncedAside, RenamedAside, RemovedFile, SettledFiles}
 use Rattle.settings.specs.declared.interfaces.Managed.{Managed}
-use Rattle.client_model.specs.Clients.{rows_of}
+use Rattle.turn_model.specs.ClientModel.Clients.{rows_of}
 use Rattle.script_model.specs.declared.failing.FailDevice.TheVariants.{Hooks}
 use Rattle.script_model.specs.FailingCalls.{failing_calls}
 use Rattle.script_model.specs.Lines as lines

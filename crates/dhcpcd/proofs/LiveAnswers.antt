@@ -22,8 +22,8 @@ use Rattle.dhcpcd.specs.Living.{Asked, Around, around, asked, head_of, IsServed,
 use Rattle.dhcpcd.specs.Refusals.{IsConfRefused}
 use Rattle.dhcpcd.specs.Statuses.{HasStatusCause, StopsReading, StopsWriting}
 use Rattle.dhcpcd.proofs.Endings.{configured, not_too_long}
-use Rattle.file_evidence.proofs.StoreRuns.{foretold_whole}
-use Rattle.safe_texts.proofs.PlainConfigurations.{configured_texts_are_safe}
+use Rattle.daemon.proofs.FileEvidence.StoreRuns.{foretold_whole}
+use Rattle.daemon.proofs.SafeTexts.PlainConfigurations.{configured_texts_are_safe}
 use Rattle.dhcpcd.proofs.FilesRightly.{life_keeps}
 use Rattle.dhcpcd.proofs.HostRightly.{life_holds}
 use Rattle.dhcpcd.proofs.SafelyTold.{life_tells}

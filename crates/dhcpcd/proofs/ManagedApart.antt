@@ -13,8 +13,8 @@ use Rattle.script_model.specs.Scripts.{CountsFrom, FitInterfaces, Unlike}
 use Rattle.conf_text.specs.Configurations.{Configuration}
 use Rattle.conf_text.specs.Choosing.{is_managed}
 use Rattle.conf_text.specs.Settings.{settings_for, managed_with, managed_among, managed_of}
-use Rattle.evidence.specs.Laws.{AreNumbered}
-use Rattle.evidence.proofs.Numbered.{counted}
+use Rattle.audit_reasons.specs.Evidence.Laws.{AreNumbered}
+use Rattle.audit_reasons.proofs.Evidence.Numbered.{counted}
 use Rattle.lab_laws.specs.LabClients.{AreApart, AreClients}
 
 -- ---- what is left of a list

@@ -16,13 +16,13 @@ use Rattle.turn_model.specs.Opening.{opening_asks}
 use Rattle.turn_model.specs.Turns.{Life, is_end, is_over}
 use Rattle.conf_text.specs.Configurations.{Configuration, IsConfOf}
 use Rattle.conf_text.specs.Settings.{managed_of}
-use Rattle.file_evidence.proofs.StoreRuns.{told_are_turns}
-use Rattle.safe_texts.specs.ConfiguredTexts.{IsConfiguredLife}
-use Rattle.safe_texts.specs.ResolverLines.{AreOctets, IsLife}
-use Rattle.safe_texts.proofs.ConfiguredLives.{configured_lives_are_lives, variables_are_printable}
-use Rattle.safe_texts.proofs.LifeJobs.{life_jobs_are_safe}
-use Rattle.safe_texts.proofs.LifeLines.{written_lines_are_safe}
-use Rattle.exact_texts.proofs.ExactLives.{configured_jobs_are_exact}
+use Rattle.daemon.proofs.FileEvidence.StoreRuns.{told_are_turns}
+use Rattle.daemon.specs.SafeTexts.ConfiguredTexts.{IsConfiguredLife}
+use Rattle.daemon.specs.SafeTexts.ResolverLines.{AreOctets, IsLife}
+use Rattle.daemon.proofs.SafeTexts.ConfiguredLives.{configured_lives_are_lives, variables_are_printable}
+use Rattle.daemon.proofs.SafeTexts.LifeJobs.{life_jobs_are_safe}
+use Rattle.daemon.proofs.SafeTexts.LifeLines.{written_lines_are_safe}
+use Rattle.daemon.proofs.ExactTexts.ExactLives.{configured_jobs_are_exact}
 use Rattle.dhcpcd.specs.Replays.{IsScript, configuration_text, managed_in, failing_in, at_first, Failing, Between, world_in, after_life}
 use Rattle.dhcpcd.specs.Sound.{BringsBytes}
 use Rattle.dhcpcd.specs.ToldSafely.{TellsSafely, AllTellSafely}

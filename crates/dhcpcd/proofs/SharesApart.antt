@@ -19,8 +19,8 @@ use Rattle.conf_text.specs.Places.{is_named}
 use Rattle.conf_text.specs.Settings.{managed_of, managed_with, settings_for, settings_of}
 use Rattle.conf_text.specs.Shares.{given_by, outlet_by, outlet_of, share_with, shared_by, shares_taken}
 use Rattle.conf_text.proofs.NameLaws.{same_named}
-use Rattle.evidence.specs.Laws.{AreSharedWithOthers}
-use Rattle.evidence.specs.ShareBasis.{SharesWithOthers}
+use Rattle.audit_reasons.specs.Evidence.Laws.{AreSharedWithOthers}
+use Rattle.audit_reasons.specs.Evidence.ShareBasis.{SharesWithOthers}
 
 -- ---- what is found in a list
 

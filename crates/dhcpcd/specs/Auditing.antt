@@ -2,9 +2,9 @@
 use Rattle.std.specs.Prelude.{ℕ, ◌≡◌, ◌<◌, ◌≤◌, List, ◌++◌, length, codes, decimal, Option, Some}
 use Rattle.world.specs.declared.rows.HostRow.{HostRow}
 use Rattle.world.specs.RowText.{row_text}
-use Rattle.transcript_audit.specs.declared.verdict.Verdict.{Verdict}
-use Rattle.transcript_audit.specs.declared.verdict.Verdict.TheVariants.{Yes, No}
-use Rattle.transcript_audit.specs.Verdicts.{IsJudged, NamesBad}
+use Rattle.audit_reasons.specs.TranscriptAudit.declared.verdict.Verdict.{Verdict}
+use Rattle.audit_reasons.specs.TranscriptAudit.declared.verdict.Verdict.TheVariants.{Yes, No}
+use Rattle.audit_reasons.specs.TranscriptAudit.Verdicts.{IsJudged, NamesBad}
 use Rattle.audit_reasons.specs.Accounts.{IsExplained}
 use Rattle.audit_reasons.specs.Texts.{lines_text}
 use Rattle.audit_reasons.specs.declared.line.BasisLine.{BasisLine}

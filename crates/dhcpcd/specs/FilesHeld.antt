@@ -7,7 +7,7 @@ use Rattle.settings.specs.declared.interfaces.Managed.{Managed}
 use Rattle.script_model.specs.ScriptTexts.{LifeScript}
 use Rattle.device_calls.specs.Worlds.{World}
 use Rattle.turn_model.specs.FilesInLife.{KeepsFiles}
-use Rattle.file_evidence.specs.WholeFiles.{LivesWhole}
+use Rattle.daemon.specs.FileEvidence.WholeFiles.{LivesWhole}
 use Rattle.turn_model.specs.Foretold.{ran_opening, ran_turn}
 use Rattle.turn_model.specs.HostInLife.{running_opened, life_run}
 use Rattle.dhcpcd.specs.HostHeld.{lived_on}

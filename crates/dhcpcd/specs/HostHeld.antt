@@ -4,13 +4,13 @@ use Rattle.std.specs.List.{AllByRecursion}
 use Rattle.net_types.specs.declared.interface.IfSpec.{IfSpec}
 use Rattle.world.specs.LinkCalls.{Given}
 use Rattle.settings.specs.declared.interfaces.Managed.{Managed}
-use Rattle.client_model.specs.Clients.{rows_of}
+use Rattle.turn_model.specs.ClientModel.Clients.{rows_of}
 use Rattle.script_model.specs.ScriptTexts.{LifeScript}
 use Rattle.host_model.specs.HostTable.{NoneFails, Table, unknown_table}
 use Rattle.device_calls.specs.Worlds.{World}
 use Rattle.turn_model.specs.Foretold.{opening_of, foretold_life}
 use Rattle.turn_model.specs.HostInLife.{Running, running_opened, running_turned, life_run, table_of, HoldsUnlessFailed}
-use Rattle.evidence.specs.HeldAddresses.{RestOnEvidence, WantsStaticAlone, WantsStaticOrKept}
+use Rattle.audit_reasons.specs.Evidence.HeldAddresses.{RestOnEvidence, WantsStaticAlone, WantsStaticOrKept}
 use Rattle.dhcpcd.specs.Replays.{Failing, Between, world_in, after_life}
 
 -- No host call failed between two tables.

@@ -5,7 +5,7 @@ use Rattle.conf_text.specs.Configurations.{Configuration, IsConfOf}
 use Rattle.conf_text.specs.Settings.{managed_of}
 use Rattle.conf_text.specs.declared.answers.ConfFault.{ConfFault}
 use Rattle.lab_schedule.specs.Schedules.{Schedule, SpellsSchedule, IsBadLine}
-use Rattle.lab_model.specs.LabLines.{lab_text}
+use Rattle.lab_laws.specs.LabModel.LabLines.{lab_text}
 use Rattle.dhcpcd.specs.declared.status.Status.{Status}
 use Rattle.dhcpcd.specs.declared.status.Status.TheVariants as status
 use Rattle.dhcpcd.specs.Works.{Work, IsWorked, NothingFound}

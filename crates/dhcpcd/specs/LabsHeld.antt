@@ -6,8 +6,8 @@ use Rattle.settings.specs.declared.interfaces.Managed.{Managed}
 use Rattle.conf_text.specs.Settings.{managed_of}
 use Rattle.daemon.specs.Streams.{WritesBytes}
 use Rattle.lab_schedule.specs.Schedules.{Schedule}
-use Rattle.lab_model.specs.LabLines.{lab_lines}
-use Rattle.lab_model.specs.Labs.{lab_opened}
+use Rattle.lab_laws.specs.LabModel.LabLines.{lab_lines}
+use Rattle.lab_laws.specs.LabModel.Labs.{lab_opened}
 use Rattle.lab_laws.specs.HeldInLabs.{ApartFrom, EachEndsWithBinding, EndAfterTurns}
 use Rattle.dhcpcd.specs.Input.{IsInput}
 use Rattle.dhcpcd.specs.Labs.{IsLabOf}

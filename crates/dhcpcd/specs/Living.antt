@@ -10,9 +10,9 @@ use Rattle.replay_text.specs.ScriptContent.{conf_lines}
 use Rattle.conf_text.specs.Configurations.{Configuration, NoticeContent, IsConfOf}
 use Rattle.conf_text.specs.Settings.{managed_of}
 use Rattle.device_calls.specs.Worlds.{Seen, world_of}
-use Rattle.file_evidence.specs.WholeFiles.{LivesWhole}
+use Rattle.daemon.specs.FileEvidence.WholeFiles.{LivesWhole}
 use Rattle.live_words.specs.LiveWords.{AsksLive}
-use Rattle.safe_texts.specs.ConfiguredTexts.{IsPlainlyConfigured}
+use Rattle.daemon.specs.SafeTexts.ConfiguredTexts.{IsPlainlyConfigured}
 use Rattle.daemon.specs.declared.serving.ServeEnd.{ServeEnd}
 use Rattle.daemon.specs.declared.serving.ServeEnd.TheVariants as ends
 use Rattle.daemon.specs.Streams.{WritesLines, WritesFront}

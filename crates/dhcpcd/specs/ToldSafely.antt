@@ -9,10 +9,10 @@ use Rattle.device_calls.specs.Calls.{Call}
 use Rattle.device_calls.specs.Worlds.{World}
 use Rattle.turn_model.specs.Foretold.{foretold_life}
 use Rattle.turn_model.specs.Lives.{turns_calls}
-use Rattle.safe_texts.specs.SafeJobs.{AreSafeJobs, job_in}
-use Rattle.safe_texts.specs.ConfiguredTexts.{HasPlainVariables}
-use Rattle.safe_texts.specs.ResolverLines.{IsLinesCall}
-use Rattle.exact_texts.specs.ExactJobs.{AreExactJobs}
+use Rattle.daemon.specs.SafeTexts.SafeJobs.{AreSafeJobs, job_in}
+use Rattle.daemon.specs.SafeTexts.ConfiguredTexts.{HasPlainVariables}
+use Rattle.daemon.specs.SafeTexts.ResolverLines.{IsLinesCall}
+use Rattle.daemon.specs.ExactTexts.ExactJobs.{AreExactJobs}
 use Rattle.dhcpcd.specs.Replays.{Failing, Between, world_in, after_life}
 
 -- the calls of the life that these devices foretell

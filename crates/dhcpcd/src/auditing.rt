@@ -1,6 +1,6 @@
 //! The verdict on a transcript.
 ghost use Rattle.std.specs.Prelude.{◌≡◌, Some, true, IfOk, IfErr};
-ghost use Rattle.transcript_audit.specs.Verdicts.{IsJudged};
+ghost use Rattle.audit_reasons.specs.TranscriptAudit.Verdicts.{IsJudged};
 ghost use Rattle.dhcpcd.specs.Auditing.{IsAnsweredDuly, IsAuditAnswer, auditing, verdict_text};
 ghost use Rattle.dhcpcd.specs.Input.{ReadsWithin, input_told};
 ghost use Rattle.dhcpcd.specs.Statuses.{HasStatusCause};
@@ -8,10 +8,10 @@ ghost use Rattle.dhcpcd.specs.Works.{MayRefuse};
 
 use crate::status::Status;
 use crate::working::{Finding, TextWork, perform};
+use audit_reasons::{AuditAnswer, Verdict, a_verdict_is_one, audit};
 use std::alloc::Global;
 use std::fmt;
 use std::fmt::Display;
-use transcript_audit::{AuditAnswer, Verdict, a_verdict_is_one, audit};
 use world::{NoMemory, Sink, Source};
 
 /// A verdict as the line that says it.

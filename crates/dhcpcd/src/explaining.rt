@@ -1,6 +1,6 @@
 //! The verdict on a transcript, and after a yes why addresses may be held.
 ghost use Rattle.std.specs.Prelude.{◌≡◌, ◌++◌, true, IfOk, IfErr};
-ghost use Rattle.transcript_audit.specs.Verdicts.{IsJudged};
+ghost use Rattle.audit_reasons.specs.TranscriptAudit.Verdicts.{IsJudged};
 ghost use Rattle.audit_reasons.specs.Accounts.{AccountsFor};
 ghost use Rattle.audit_reasons.specs.Texts.{lines_text};
 ghost use Rattle.dhcpcd.specs.Auditing.{IsAnsweredDuly, IsWhyAnswer, explaining, verdict_text};
@@ -11,10 +11,9 @@ ghost use Rattle.dhcpcd.specs.Works.{MayRefuse};
 use crate::auditing::verdict_line;
 use crate::status::Status;
 use crate::working::{Finding, TextWork, perform};
-use audit_reasons::{Account, explain, text_of};
+use audit_reasons::{Account, AuditAnswer, Verdict, a_verdict_is_one, explain, text_of};
 use net_types::append_bytes;
 use std::alloc::Global;
-use transcript_audit::{AuditAnswer, Verdict, a_verdict_is_one};
 use world::{NoMemory, Sink, Source};
 
 /// The text of what is said of a transcript.

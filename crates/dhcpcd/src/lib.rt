@@ -22,6 +22,7 @@ mod words;
 mod working;
 mod writing;
 
+pub use daemon::{Devices, ServeEnd, serve};
 pub use laws::{hooks_change_nothing, labs_hold_apart};
 pub use running::run;
 pub use status::Status;

@@ -34,8 +34,8 @@ use Rattle.v6_client.specs.Clients as dhcp6
 use Rattle.evidence_words.specs.HostDuids.{duid_read, duid_shown}
 use Rattle.evidence.proofs.Off6.{off_holds6}
 use Rattle.client_model.proofs.SameInterfaces.{managed_in}
-use Rattle.turn_model.specs.Turns.{Life}
-use Rattle.turn_model.specs.Lives.{OpeningMet, Met, life_after}
+use Rattle.evidence_words.specs.TurnModel.Turns.{Life}
+use Rattle.evidence_words.specs.TurnModel.Lives.{OpeningMet, Met, life_after}
 use Rattle.evidence_words.specs.Entries.{Entry, entry_of, opening_entry, shown_after, shown_of}
 use Rattle.evidence_words.specs.Inputs.{Site}
 use Rattle.evidence_words.specs.IfaceLives.{now_in}
@@ -43,7 +43,7 @@ use Rattle.evidence_words.proofs.Offers.{number_of}
 use Rattle.local_evidence.specs.LinkLocalBasis.{LinkLocalBasis, StrongBasis}
 use Rattle.local_evidence.proofs.Weakening.{local_weaker}
 use Rattle.lease6_evidence.specs.HeldItems.{ItemHasBasis}
-use Rattle.lease_evidence.specs.HeldLeases.{LeaseRests}
+use Rattle.lease6_evidence.specs.LeaseEvidence.HeldLeases.{LeaseRests}
 use Rattle.lease6_evidence.specs.KeptBasis6.{KeptAddress6}
 use Rattle.evidence.specs.ShareBasis.{ShareBasis, SharesWithOthers}
 use Rattle.evidence.specs.StaticBasis.{StaticBasis}

@@ -15,10 +15,10 @@ use Rattle.evidence_words.specs.Inputs.{Site, index_at, has_carrier, carrier_aft
 use Rattle.evidence_words.specs.IfaceLives.{now_in}
 use Rattle.evidence_words.specs.Probed.{probes_taken}
 use Rattle.local_evidence.specs.LinkLocalBasis.{Anything, LinkLocalBasis}
-use Rattle.lease_evidence.specs.Endings.{LosesCarrier}
-use Rattle.lease_evidence.proofs.KeptNeedsProofs.{kept_ends_by_loss, kept_ends_by_stop}
-use Rattle.lease_evidence.proofs.EndingProofs.{lost_goes, stop_goes, ends_by_loss, ends_by_stop}
-use Rattle.lease_evidence.proofs.ProbeCounts.{fourth_since, three_since}
+use Rattle.lease6_evidence.specs.LeaseEvidence.Endings.{LosesCarrier}
+use Rattle.lease6_evidence.proofs.LeaseEvidence.KeptNeedsProofs.{kept_ends_by_loss, kept_ends_by_stop}
+use Rattle.lease6_evidence.proofs.LeaseEvidence.EndingProofs.{lost_goes, stop_goes, ends_by_loss, ends_by_stop}
+use Rattle.lease6_evidence.proofs.LeaseEvidence.ProbeCounts.{fourth_since, three_since}
 use Rattle.evidence.specs.Endings.{TellsNoCarrier, StaticNeedsCarrier, StaticWaitsForCarrier, StaticEndsWithStop, StaticIsConfigured, EndsWithCarrier, EndsWithStop}
 
 -- ---- static addresses

@@ -3,10 +3,10 @@ use Rattle.std.proofs.Common.{◌≡◌, ℕ, suc, ◌<◌, Bool, true, false, �
 use Rattle.std.specs.Prelude.{if◌then◌else◌}
 use Rattle.world.specs.LinkCalls.{Given}
 use Rattle.settings.specs.declared.interfaces.Managed.{Managed}
-use Rattle.turn_model.specs.Turns.{is_end, is_over}
-use Rattle.turn_model.specs.Lives.{Met}
-use Rattle.turn_model.specs.Foretold.{ran_turn, met_of, told_turns}
-use Rattle.turn_model.specs.HostInLife.{Running, running_turned, running_after}
+use Rattle.evidence_words.specs.TurnModel.Turns.{is_end, is_over}
+use Rattle.evidence_words.specs.TurnModel.Lives.{Met}
+use Rattle.evidence_words.specs.TurnModel.Foretold.{ran_turn, met_of, told_turns}
+use Rattle.evidence_words.specs.TurnModel.HostInLife.{Running, running_turned, running_after}
 use Rattle.evidence.specs.HeldAddresses.{mets_of, ForetoldAreMet}
 
 -- where a list that may be cut off has an element, it isn't cut off there

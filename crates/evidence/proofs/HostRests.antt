@@ -14,13 +14,13 @@ use Rattle.host_model.proofs.HostTableRows.{has_filter}
 use Rattle.client_model.specs.Clients.{rows_of}
 use Rattle.device_calls.specs.Worlds.{World}
 use Rattle.device_calls.proofs.Running.{run_makes}
-use Rattle.turn_model.specs.FilesInLife.{AreNamedApart}
-use Rattle.turn_model.specs.Turns.{Life, until, turn_asks}
-use Rattle.turn_model.specs.Opening.{opening_asks}
-use Rattle.turn_model.specs.Lives.{IsOpening, life_after}
-use Rattle.turn_model.specs.Foretold.{told_wake, told_bytes, woken, opening_of}
-use Rattle.turn_model.specs.HostInLife.{Running, running_opened, running_turned, running_after, life_run}
-use Rattle.turn_model.proofs.HostInLifeTurns.{opening_holds, turn_in_life}
+use Rattle.evidence_words.specs.TurnModel.FilesInLife.{AreNamedApart}
+use Rattle.evidence_words.specs.TurnModel.Turns.{Life, until, turn_asks}
+use Rattle.evidence_words.specs.TurnModel.Opening.{opening_asks}
+use Rattle.evidence_words.specs.TurnModel.Lives.{IsOpening, life_after}
+use Rattle.evidence_words.specs.TurnModel.Foretold.{told_wake, told_bytes, woken, opening_of}
+use Rattle.evidence_words.specs.TurnModel.HostInLife.{Running, running_opened, running_turned, running_after, life_run}
+use Rattle.evidence_words.proofs.TurnModel.HostInLifeTurns.{opening_holds, turn_in_life}
 use Rattle.evidence.specs.Laws.{AreOctets, AreNumbered, AreMade, AreSharedWithOthers}
 use Rattle.evidence.specs.HeldAddresses.{mets_of, RestOnEvidence, OpeningRests, TurnsRest}
 use Rattle.evidence.proofs.Based.{AreBased, ItemsAreBased, have_basis}

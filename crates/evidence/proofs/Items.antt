@@ -9,8 +9,8 @@ use Rattle.settings.specs.declared.interfaces.Managed.{Managed}
 use Rattle.settings.specs.Fitting.{AreManaged, FitsManaged}
 use Rattle.script_model.specs.IfaceSets.{is_up}
 use Rattle.client_model.specs.declared.interfaces.Iface.{Iface}
-use Rattle.turn_model.specs.Lives.{OpeningMet, Met, life_after}
-use Rattle.turn_model.specs.Turns.{Life}
+use Rattle.evidence_words.specs.TurnModel.Lives.{OpeningMet, Met, life_after}
+use Rattle.evidence_words.specs.TurnModel.Turns.{Life}
 use Rattle.evidence_words.specs.Entries.{Entry, opening_entry, shown_of}
 use Rattle.evidence_words.specs.HostDuids.{duid_read, duid_shown}
 use Rattle.evidence_words.proofs.Offers.{number_of}

@@ -11,7 +11,7 @@ use Rattle.frame_link.specs.declared.arp.ArpView.{ArpView}
 use Rattle.ipv4ll.specs.declared.link_local.State.{State}
 use Rattle.ipv4ll.specs.declared.link_local.State.TheVariants.{Off, Armed, Chosen, Waiting}
 use Rattle.ipv4ll.specs.Table.{ll_tick, ll_hears}
-use Rattle.v4_frames.specs.Heard.{HeardMessage, heard4_in}
+use Rattle.v4_client.specs.V4Frames.Heard.{HeardMessage, heard4_in}
 use Rattle.v6_frames.specs.Heard.{HeardMessage6, heard6_in}
 use Rattle.v6_client.specs.declared.states.Carrier6.TheVariants as carrier6
 use Rattle.v6_client.specs.declared.states.State6.TheVariants as client6

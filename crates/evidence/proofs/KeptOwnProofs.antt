@@ -1,8 +1,8 @@
 -- A lease that was kept is the interface's own.
 use Rattle.std.specs.Prelude.{flat_map}
 use Rattle.device_calls.specs.Calls.{store_call}
-use Rattle.turn_model.specs.Loading.{lease4_file, lease6_file}
-use Rattle.turn_model.proofs.OwnLeases.{loaded, loaded6}
+use Rattle.evidence_words.specs.TurnModel.Loading.{lease4_file, lease6_file}
+use Rattle.evidence_words.proofs.TurnModel.OwnLeases.{loaded, loaded6}
 use Rattle.evidence_words.specs.HostDuids.{read_among}
 use Rattle.evidence.specs.KeptOwn.{KeptAreOwn}
 

@@ -1,5 +1,5 @@
 -- Each lease that is held has its basis.
-use Rattle.lease_evidence.proofs.Joining.{LeaseRelation, lease_carried, lease_based}
+use Rattle.lease6_evidence.proofs.LeaseEvidence.Joining.{LeaseRelation, lease_carried, lease_based}
 use Rattle.evidence.proofs.Based.{AreBased}
 
 pub leases_based : AreBased LeaseRelation

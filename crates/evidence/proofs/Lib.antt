@@ -14,3 +14,4 @@ pub mod Items
 pub mod EndingProofs
 pub mod KeptOwnProofs
 pub mod Starts
+pub use Rattle.lease6_evidence.proofs.LeaseEvidence

@@ -30,8 +30,8 @@ use Rattle.evidence_words.specs.IfaceLives.{Opening, Met, site_of, shown, iface_
 use Rattle.evidence_words.specs.Inputs.{Site, offers_at}
 use Rattle.evidence_words.proofs.Carrying.{Relation, Shows, IsCarried, at_site, entry, opened_when, turned_by}
 use Rattle.evidence_words.proofs.Offers.{Offered, refused_among}
-use Rattle.lease_evidence.specs.HeldLeases.{KeepsTyped}
-use Rattle.lease_evidence.proofs.LeasedTurns.{lease_fits, lease_typed}
+use Rattle.lease6_evidence.specs.LeaseEvidence.HeldLeases.{KeepsTyped}
+use Rattle.lease6_evidence.proofs.LeaseEvidence.LeasedTurns.{lease_fits, lease_typed}
 use Rattle.lease6_evidence.specs.HeldItems.{ItemHasBasis}
 use Rattle.lease6_evidence.proofs.FourFrames.{held_items_have_basis}
 

@@ -21,14 +21,14 @@ use Rattle.client_model.specs.IfaceSteps.{IfaceStep}
 use Rattle.client_model.specs.KeptLeases.{Beginning}
 use Rattle.client_model.specs.WantedRows.{outlet_of, static_rows, static6_rows, iface_rows}
 use Rattle.client_model.proofs.SameInterfaces.{managed_in, opened_is_same}
-use Rattle.turn_model.specs.Loading.{beginnings_of, duid_with}
-use Rattle.turn_model.proofs.Loading.{beginnings_managed, files_are_loaded}
-use Rattle.turn_model.specs.Lives.{OpeningMet, IsOpening}
-use Rattle.turn_model.specs.Opening.{opening_step}
-use Rattle.turn_model.proofs.HostInLifeTurns.{opening_managed}
+use Rattle.evidence_words.specs.TurnModel.Loading.{beginnings_of, duid_with}
+use Rattle.evidence_words.proofs.TurnModel.Loading.{beginnings_managed, files_are_loaded}
+use Rattle.evidence_words.specs.TurnModel.Lives.{OpeningMet, IsOpening}
+use Rattle.evidence_words.specs.TurnModel.Opening.{opening_step}
+use Rattle.evidence_words.proofs.TurnModel.HostInLifeTurns.{opening_managed}
 use Rattle.evidence_words.proofs.Made.{OpeningShown, opening_shows}
-use Rattle.lease_evidence.specs.HeldLeases.{configured_rows}
-use Rattle.lease_evidence.proofs.Beginnings.{begins_with_static_rows}
+use Rattle.lease6_evidence.specs.LeaseEvidence.HeldLeases.{configured_rows}
+use Rattle.lease6_evidence.proofs.LeaseEvidence.Beginnings.{begins_with_static_rows}
 use Rattle.evidence.specs.StaticBasis.{StaticBasis}
 use Rattle.net_types.specs.declared.address.Net6.{Net6}
 use Rattle.v6_client.specs.declared.setup.IaAsk.{IaAsk}
@@ -40,8 +40,8 @@ use Rattle.evidence_words.specs.Inputs.{Site, StaysOn, index_at}
 use Rattle.evidence_words.specs.Probed.{Probes}
 use Rattle.local_evidence.specs.LinkLocalBasis.{Anything, LinkLocalBasis}
 use Rattle.local_evidence.proofs.Weakening.{local_weaker}
-use Rattle.lease_evidence.proofs.AskingProofs.{needs_frame_here}
-use Rattle.lease_evidence.proofs.Joining.{LeaseRelation}
+use Rattle.lease6_evidence.proofs.LeaseEvidence.AskingProofs.{needs_frame_here}
+use Rattle.lease6_evidence.proofs.LeaseEvidence.Joining.{LeaseRelation}
 use Rattle.lease6_evidence.specs.HeldItems.{ItemRests}
 use Rattle.lease6_evidence.specs.KeptBasis6.{KeptBasis6}
 use Rattle.lease6_evidence.specs.Laws6.{Names}

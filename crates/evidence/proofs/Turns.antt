@@ -26,13 +26,13 @@ use Rattle.evidence_words.specs.FiledLeases.{kept4_shown, kept6_shown}
 use Rattle.evidence_words.specs.HostDuids.{duid_shown}
 use Rattle.evidence_words.specs.Inputs.{Site}
 use Rattle.client_model.proofs.SameInterfaces.{managed_in, IsSame, opened_is_same, turned_is_same, all_turned}
-use Rattle.turn_model.specs.FilesInLife.{AreNamedApart}
-use Rattle.turn_model.specs.Loading.{duid_with, beginnings_of}
-use Rattle.turn_model.specs.Turns.{Life, turn_moment, input_of, step_of}
-use Rattle.turn_model.specs.Opening.{opening_step}
-use Rattle.turn_model.specs.Lives.{OpeningMet, IsOpening, Met, life_after}
-use Rattle.turn_model.proofs.HostInLifeTurns.{opening_managed}
-use Rattle.turn_model.proofs.Loading.{KeepsFitting, beginnings_fit}
+use Rattle.evidence_words.specs.TurnModel.FilesInLife.{AreNamedApart}
+use Rattle.evidence_words.specs.TurnModel.Loading.{duid_with, beginnings_of}
+use Rattle.evidence_words.specs.TurnModel.Turns.{Life, turn_moment, input_of, step_of}
+use Rattle.evidence_words.specs.TurnModel.Opening.{opening_step}
+use Rattle.evidence_words.specs.TurnModel.Lives.{OpeningMet, IsOpening, Met, life_after}
+use Rattle.evidence_words.proofs.TurnModel.HostInLifeTurns.{opening_managed}
+use Rattle.evidence_words.proofs.TurnModel.Loading.{KeepsFitting, beginnings_fit}
 use Rattle.evidence_words.specs.Entries.{Offer, Entry, offers_on, entry_of, opening_entry, shown_after}
 use Rattle.evidence.specs.Laws.{AreNumbered, AreMade}
 use Rattle.evidence_words.proofs.Carrying.{Relation, IsCarried, entry}

@@ -10,7 +10,7 @@ use Rattle.world.specs.declared.wakes.Event.TheVariants.{Carrier, Stop}
 use Rattle.evidence_words.specs.Entries.{Entry}
 use Rattle.evidence_words.specs.Inputs.{Site, index_at, has_carrier}
 use Rattle.evidence_words.specs.Probed.{probes_taken}
-use Rattle.lease_evidence.specs.Endings.{GrantedNoMore}
+use Rattle.lease6_evidence.specs.LeaseEvidence.Endings.{GrantedNoMore}
 use Rattle.evidence.specs.Laws.{Basis}
 use Rattle.evidence.specs.StaticBasis.{StaticBasis}
 

@@ -16,15 +16,15 @@ use Rattle.settings.specs.ManagedRows.{SharesAreManaged, is_managed}
 use Rattle.host_model.specs.HostTable.{InRowOrder, NoneFails, unknown_table}
 use Rattle.client_model.specs.Clients.{rows_of}
 use Rattle.device_calls.specs.Worlds.{World}
-use Rattle.turn_model.specs.Lives.{OpeningMet, IsOpening, Met}
-use Rattle.turn_model.specs.Foretold.{ran_turn, met_of, told_turns, opening_of}
-use Rattle.turn_model.specs.HostInLife.{Running, running_opened, running_turned, running_after, life_run, table_of}
+use Rattle.evidence_words.specs.TurnModel.Lives.{OpeningMet, IsOpening, Met}
+use Rattle.evidence_words.specs.TurnModel.Foretold.{ran_turn, met_of, told_turns, opening_of}
+use Rattle.evidence_words.specs.TurnModel.HostInLife.{Running, running_opened, running_turned, running_after, life_run, table_of}
 use Rattle.evidence.specs.StaticBasis.{StaticBasis}
 use Rattle.evidence.specs.Laws.{AreNumbered, AreSharedWithOthers, HasBasis, HasBasisOf, HasShareBasisOf, KeptBasis}
 use Rattle.evidence_words.specs.Entries.{Entry}
 use Rattle.evidence_words.specs.Inputs.{Site}
 use Rattle.lease6_evidence.specs.KeptBasis6.{KeptBasis6}
-use Rattle.turn_model.specs.FilesInLife.{AreNamedApart}
+use Rattle.evidence_words.specs.TurnModel.FilesInLife.{AreNamedApart}
 use Rattle.v6_client.specs.declared.setup.IaAsk.{IaAsk}
 use Rattle.net_types.specs.declared.address.Net6.{Net6}
 

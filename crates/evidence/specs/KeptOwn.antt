@@ -2,7 +2,7 @@
 use Rattle.std.specs.Prelude.{List, IfSome}
 use Rattle.settings.specs.declared.interfaces.Managed.{Managed}
 use Rattle.device_calls.specs.Calls.{Call}
-use Rattle.turn_model.specs.OwnLeases.{IsOfInterface}
+use Rattle.evidence_words.specs.TurnModel.OwnLeases.{IsOfInterface}
 use Rattle.evidence_words.specs.FiledLeases.{kept4_shown, kept6_shown}
 
 -- What an opening shows as the kept leases of an interface has its name, and its hardware address where it tells its

@@ -17,9 +17,9 @@ use Rattle.client_model.specs.ClientSettings.{runs_dhcp4}
 use Rattle.client_model.specs.ClientSettings6.{runs_dhcp6}
 use Rattle.client_model.specs.Clients.{rows_of}
 use Rattle.device_calls.specs.Programs.{Makes}
-use Rattle.turn_model.specs.FilesInLife.{AreNamedApart}
-use Rattle.turn_model.specs.Turns.{Life, turn_asks}
-use Rattle.turn_model.specs.Lives.{OpeningMet, IsOpening, Met, life_after}
+use Rattle.evidence_words.specs.TurnModel.FilesInLife.{AreNamedApart}
+use Rattle.evidence_words.specs.TurnModel.Turns.{Life, turn_asks}
+use Rattle.evidence_words.specs.TurnModel.Lives.{OpeningMet, IsOpening, Met, life_after}
 use Rattle.evidence_words.specs.Entries.{Entry, shown_of}
 use Rattle.evidence_words.specs.FiledLeases.{kept4_shown, kept6_shown}
 use Rattle.evidence_words.specs.HostDuids.{duid_shown}
@@ -28,8 +28,8 @@ use Rattle.evidence_words.specs.IfaceLives.{now_in}
 use Rattle.evidence.specs.StaticBasis.{StaticBasis}
 use Rattle.evidence.specs.ShareBasis.{ShareBasisOf, SharesWithOthers}
 use Rattle.local_evidence.specs.LinkLocalBasis.{LinkLocalBasis, StrongBasis}
-use Rattle.lease_evidence.specs.KeptBasis4.{KeptBasis4}
-use Rattle.lease_evidence.specs.LeaseBasis.{LeaseBasis}
+use Rattle.lease6_evidence.specs.LeaseEvidence.KeptBasis4.{KeptBasis4}
+use Rattle.lease6_evidence.specs.LeaseEvidence.LeaseBasis.{LeaseBasis}
 use Rattle.lease6_evidence.specs.HeldItems.{ItemRests}
 use Rattle.lease6_evidence.specs.ItemBasis.{AddressBasis}
 use Rattle.lease6_evidence.specs.KeptBasis6.{KeptAddress6, KeptBasis6}

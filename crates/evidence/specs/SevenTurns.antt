@@ -14,13 +14,13 @@ use Rattle.world.specs.LinkCalls.{Given}
 use Rattle.world.specs.StoreCalls.{store_holding}
 use Rattle.world.specs.StoreFails.{never_fails}
 use Rattle.device_calls.specs.Worlds.{World}
-use Rattle.turn_model.specs.Lives.{OpeningMet, Met}
-use Rattle.turn_model.specs.Foretold.{opening_of}
-use Rattle.turn_model.specs.HostInLife.{running_opened}
+use Rattle.evidence_words.specs.TurnModel.Lives.{OpeningMet, Met}
+use Rattle.evidence_words.specs.TurnModel.Foretold.{opening_of}
+use Rattle.evidence_words.specs.TurnModel.HostInLife.{running_opened}
 use Rattle.evidence.specs.HeldAddresses.{mets_of}
 use Rattle.client_model.specs.WantedRows.{local_net}
 use Rattle.evidence_words.specs.Entries.{Entry}
-use Rattle.lease_evidence.specs.PlainIface.{client_mac, plain_eth0}
+use Rattle.lease6_evidence.specs.LeaseEvidence.PlainIface.{client_mac, plain_eth0}
 
 abbrev pub other_mac : Mac
 other_mac = record { bytes = 2 ∷ 0 ∷ 0 ∷ 0 ∷ 0 ∷ 9 ∷ [] }

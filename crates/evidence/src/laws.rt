@@ -5,7 +5,7 @@ ghost use Rattle.std.specs.Prelude.{◌≡◌, ◌∷◌, List, [], true};
 ghost use Rattle.world.specs.RowOrder.{has_row};
 ghost use Rattle.world.specs.declared.rows.HostRow.TheVariants.{Addr};
 ghost use Rattle.client_model.specs.Clients.{rows_of};
-ghost use Rattle.turn_model.specs.Lives.{IsOpening, life_after};
+ghost use Rattle.evidence_words.specs.TurnModel.Lives.{IsOpening, life_after};
 ghost use Rattle.evidence_words.specs.Entries.{shown_of};
 ghost use Rattle.evidence.specs.Endings.{EndsWithCarrier, EndsWithStop, StaticEndsWithStop, StaticIsConfigured, StaticNeedsCarrier, StaticWaitsForCarrier};
 ghost use Rattle.evidence.specs.HeldAddresses.{ForetoldAreMet, OpeningRests, OpeningStarts, PlainOpeningStarts, TurnsRest};

@@ -2,18 +2,18 @@
 use Rattle.std.proofs.Common.{◌≡◌, ℕ, ◌<◌, ◌^◌, Bool, true, false, List, [], ◌∷◌}
 use Rattle.std.specs.Prelude.{IfSome}
 use Rattle.net_types.specs.declared.address.Mac.{Mac}
-use Rattle.lease_text.specs.Bounds.{HasText}
-use Rattle.lease6_text.specs.Bounds.{HasText6}
+use Rattle.turn_model.specs.LeaseText.Bounds.{HasText}
+use Rattle.turn_model.specs.Lease6Text.Bounds.{HasText6}
 use Rattle.world.specs.declared.wakes.Event.{Event}
 use Rattle.world.specs.declared.wakes.Event.TheVariants.{Quiet}
-use Rattle.script_model.specs.IfaceSets.{is_in}
-use Rattle.client_model.specs.declared.interfaces.Iface.{Iface}
-use Rattle.client_model.specs.Messages.{Said}
-use Rattle.client_model.specs.ClientSettings.{ask_of}
-use Rattle.client_model.specs.IfaceSteps.{IfaceStep, index_of}
-use Rattle.client_model.specs.Interfaces.{carrier_at_opening, resting}
-use Rattle.client_model.specs.KeptLeases.{Beginning}
-use Rattle.client_model.specs.IfaceTurns.{iface_turned}
+use Rattle.turn_model.specs.ScriptModel.IfaceSets.{is_in}
+use Rattle.turn_model.specs.ClientModel.declared.interfaces.Iface.{Iface}
+use Rattle.turn_model.specs.ClientModel.Messages.{Said}
+use Rattle.turn_model.specs.ClientModel.ClientSettings.{ask_of}
+use Rattle.turn_model.specs.ClientModel.IfaceSteps.{IfaceStep, index_of}
+use Rattle.turn_model.specs.ClientModel.Interfaces.{carrier_at_opening, resting}
+use Rattle.turn_model.specs.ClientModel.KeptLeases.{Beginning}
+use Rattle.turn_model.specs.ClientModel.IfaceTurns.{iface_turned}
 use Rattle.evidence_words.specs.Entries.{Offer, Entry, offers_on}
 use Rattle.evidence_words.specs.IfaceLives.{has_failed}
 use Rattle.evidence_words.specs.Inputs.{Site, index_at}

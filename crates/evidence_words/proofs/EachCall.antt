@@ -7,16 +7,16 @@ use Rattle.world.specs.HookCalls.{HookCall, Job}
 use Rattle.world.specs.HostCalls.{HostCall}
 use Rattle.world.specs.StoreCalls.{StoreCall, Reading, ReadFile}
 use Rattle.world.specs.declared.rows.HostRow.{HostRow}
-use Rattle.settings.specs.declared.interfaces.Managed.{Managed}
-use Rattle.host_model.specs.declared.changes.HostChange.{HostChange}
-use Rattle.host_model.specs.HostTurn.{changes}
-use Rattle.client_model.specs.declared.interfaces.Iface.{Iface}
-use Rattle.client_model.specs.ClientSettings.{runs_dhcp4}
-use Rattle.client_model.specs.ClientSettings6.{runs_dhcp6}
-use Rattle.device_calls.specs.Calls.{Call, Host, Store, Hook, Dropped, Ask, AnswerTo, Read, SyncAside, RenameAside, Settle, made}
-use Rattle.device_calls.specs.Programs.{Asks, Done, Then, after, Answers, calls_with, Makes}
-use Rattle.device_calls.proofs.Programs.{MakesBoth, makes_both}
-use Rattle.hook_child.specs.Supervision.{Supervision}
+use Rattle.turn_model.specs.IfaceSettings.declared.interfaces.Managed.{Managed}
+use Rattle.turn_model.specs.HostModel.declared.changes.HostChange.{HostChange}
+use Rattle.turn_model.specs.HostModel.HostTurn.{changes}
+use Rattle.turn_model.specs.ClientModel.declared.interfaces.Iface.{Iface}
+use Rattle.turn_model.specs.ClientModel.ClientSettings.{runs_dhcp4}
+use Rattle.turn_model.specs.ClientModel.ClientSettings6.{runs_dhcp6}
+use Rattle.turn_model.specs.DeviceCalls.Calls.{Call, Host, Store, Hook, Dropped, Ask, AnswerTo, Read, SyncAside, RenameAside, Settle, made}
+use Rattle.turn_model.specs.DeviceCalls.Programs.{Asks, Done, Then, after, Answers, calls_with, Makes}
+use Rattle.turn_model.proofs.DeviceCalls.Programs.{MakesBoth, makes_both}
+use Rattle.turn_model.specs.HookChild.Supervision.{Supervision}
 use Rattle.turn_model.specs.Hooking.{hooking, polling}
 use Rattle.turn_model.proofs.Asking.{AsksOnly, HookAsks, hooking_only, polling_only}
 use Rattle.turn_model.specs.KeptFiles.{KeptFile, if_done, bringing, is_settled, known_after, keeping_one, keeping, wanted_in}

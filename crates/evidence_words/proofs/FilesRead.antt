@@ -9,15 +9,15 @@ use Rattle.net_types.specs.NameText.{name_text}
 use Rattle.world.specs.HookCalls.{HookCall, Job}
 use Rattle.world.specs.HostCalls.{HostCall}
 use Rattle.world.specs.StoreCalls.{StoreCall, Reading, ReadFile, ListedAsides, WroteAside, SyncedAside, RenamedAside, RemovedFile, SettledFiles}
-use Rattle.settings.specs.declared.interfaces.Managed.{Managed}
-use Rattle.client_model.specs.ClientSettings.{runs_dhcp4}
-use Rattle.client_model.specs.ClientSettings6.{runs_dhcp6, some_need_duid}
-use Rattle.client_model.specs.Clients.{ClientStep, Sending, rows_of}
-use Rattle.client_model.specs.KeptLeases.{Beginning, kept_by}
-use Rattle.client_model.specs.KeptLeases6.{kept6_by}
-use Rattle.device_calls.specs.Calls.{Call, Link, Host, Store, Hook, Dropped, store_call}
-use Rattle.device_calls.specs.Programs.{Asks, Done, Then, after, Answers, calls_with, Makes}
-use Rattle.device_calls.proofs.Programs.{MakesBoth, makes_both}
+use Rattle.turn_model.specs.IfaceSettings.declared.interfaces.Managed.{Managed}
+use Rattle.turn_model.specs.ClientModel.ClientSettings.{runs_dhcp4}
+use Rattle.turn_model.specs.ClientModel.ClientSettings6.{runs_dhcp6, some_need_duid}
+use Rattle.turn_model.specs.ClientModel.Clients.{ClientStep, Sending, rows_of}
+use Rattle.turn_model.specs.ClientModel.KeptLeases.{Beginning, kept_by}
+use Rattle.turn_model.specs.ClientModel.KeptLeases6.{kept6_by}
+use Rattle.turn_model.specs.DeviceCalls.Calls.{Call, Link, Host, Store, Hook, Dropped, store_call}
+use Rattle.turn_model.specs.DeviceCalls.Programs.{Asks, Done, Then, after, Answers, calls_with, Makes}
+use Rattle.turn_model.proofs.DeviceCalls.Programs.{MakesBoth, makes_both}
 use Rattle.turn_model.specs.FilesInLife.{AreNamedApart}
 use Rattle.turn_model.specs.Hooking.{hooking}
 use Rattle.turn_model.specs.KeptFiles.{keeping}

@@ -10,14 +10,14 @@ use Rattle.world.specs.StoreCalls.{StoreCall}
 use Rattle.world.specs.declared.rows.HostRow.{HostRow}
 use Rattle.world.specs.declared.wakes.Begin.{Begin}
 use Rattle.world.specs.declared.wakes.Wake.{Wake}
-use Rattle.settings.specs.declared.interfaces.Managed.{Managed}
-use Rattle.machine.specs.Moment.{moment_of}
-use Rattle.client_model.specs.ClientSettings6.{some_need_duid}
-use Rattle.client_model.specs.Clients.{ClientStep, Sending, rows_of}
-use Rattle.device_calls.specs.Calls.{Call, Host, Store, Hook, Dropped}
-use Rattle.device_calls.specs.Programs.{Asks, Done, after, Answers, calls_with, result_with, Makes}
-use Rattle.device_calls.proofs.Programs.{MakesBoth, makes_both}
-use Rattle.hook_child.specs.Supervision.{Supervision}
+use Rattle.turn_model.specs.IfaceSettings.declared.interfaces.Managed.{Managed}
+use Rattle.turn_model.specs.Machine.Moment.{moment_of}
+use Rattle.turn_model.specs.ClientModel.ClientSettings6.{some_need_duid}
+use Rattle.turn_model.specs.ClientModel.Clients.{ClientStep, Sending, rows_of}
+use Rattle.turn_model.specs.DeviceCalls.Calls.{Call, Host, Store, Hook, Dropped}
+use Rattle.turn_model.specs.DeviceCalls.Programs.{Asks, Done, after, Answers, calls_with, result_with, Makes}
+use Rattle.turn_model.proofs.DeviceCalls.Programs.{MakesBoth, makes_both}
+use Rattle.turn_model.specs.HookChild.Supervision.{Supervision}
 use Rattle.turn_model.specs.FilesInLife.{AreNamedApart}
 use Rattle.turn_model.specs.Hooking.{hooking, polling}
 use Rattle.turn_model.specs.KeptFiles.{KeptFile, keeping}

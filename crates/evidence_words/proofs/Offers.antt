@@ -9,14 +9,14 @@ use Rattle.std.specs.List.{AllByRecursion, IsDistinct, list_any}
 use Rattle.net_types.proofs.AllLaws.{all_both, all_join, all_mapped}
 use Rattle.net_types.proofs.CaseLaws.{split}
 use Rattle.net_types.specs.declared.interface.IfSpec.{IfSpec}
-use Rattle.v4_message.specs.Requests.{AskContent}
-use Rattle.settings.specs.declared.interfaces.Managed.{Managed}
-use Rattle.script_model.specs.IfaceSets.{is_in}
-use Rattle.client_model.specs.Messages.{Said}
-use Rattle.client_model.specs.IfaceSteps.{IfaceStep}
-use Rattle.client_model.specs.Clients.{Sending, spelled, sends_of}
+use Rattle.turn_model.specs.V4Message.Requests.{AskContent}
+use Rattle.turn_model.specs.IfaceSettings.declared.interfaces.Managed.{Managed}
+use Rattle.turn_model.specs.ScriptModel.IfaceSets.{is_in}
+use Rattle.turn_model.specs.ClientModel.Messages.{Said}
+use Rattle.turn_model.specs.ClientModel.IfaceSteps.{IfaceStep}
+use Rattle.turn_model.specs.ClientModel.Clients.{Sending, spelled, sends_of}
 use Rattle.turn_model.specs.Turns.{with_iface, marked}
-use Rattle.client_model.proofs.SameInterfaces.{managed_in}
+use Rattle.turn_model.proofs.ClientModel.SameInterfaces.{managed_in}
 use Rattle.evidence_words.specs.Entries.{Offer, offers_on}
 use Rattle.evidence_words.proofs.Made.{all_offers, marked_all}
 

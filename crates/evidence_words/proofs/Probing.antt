@@ -2,16 +2,16 @@
 use Rattle.std.proofs.Common.{◌≡◌, ℕ, zero, suc, ◌+◌, ◌<◌, ◌≤◌, Bool, true, false, ◌&&◌, ◌||◌, List, [], ◌∷◌, ◌++◌, inl, inr, refl, sym, subst, add-one, arith}
 use Rattle.std.proofs.lemmas.Slice.Eq.{bytes_eq-Decides}
 use Rattle.std.specs.Prelude.{bytes_eq}
-use Rattle.machine.proofs.Entries.{since-map}
+use Rattle.turn_model.proofs.Machine.Entries.{since-map}
 use Rattle.net_types.specs.declared.address.Ip4.{Ip4}
 use Rattle.net_types.specs.declared.interface.IfIndex.{IfIndex}
-use Rattle.frame_link.specs.Packets.{probe_text}
-use Rattle.arp_acd.specs.declared.detection.ArpSay.TheVariants.{Probe}
-use Rattle.arp_acd.specs.Table as detection
-use Rattle.arp_acd.proofs.Standing.{wait_after, waits, one_second}
+use Rattle.turn_model.specs.FrameLink.Packets.{probe_text}
+use Rattle.turn_model.specs.ArpAcd.declared.detection.ArpSay.TheVariants.{Probe}
+use Rattle.turn_model.specs.ArpAcd.Table as detection
+use Rattle.turn_model.proofs.ArpAcd.Standing.{wait_after, waits, one_second}
 use Rattle.evidence_words.specs.Entries.{Entry, Offer}
-use Rattle.client_model.specs.ClientSettings.{ask_of}
-use Rattle.client_model.specs.Messages.{Said, Arp}
+use Rattle.turn_model.specs.ClientModel.ClientSettings.{ask_of}
+use Rattle.turn_model.specs.ClientModel.Messages.{Said, Arp}
 use Rattle.evidence_words.specs.Inputs.{Site, offers_at, contests}
 use Rattle.evidence_words.specs.Probed.{TurnWord, AsProbe, probe_taken, Probes}
 use Rattle.evidence_words.proofs.Offers.{Offered}

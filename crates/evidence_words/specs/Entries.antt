@@ -4,7 +4,7 @@ use Rattle.std.specs.Prelude.{ℕ, Bool, ◌==◌, List, [], ◌∷◌, filter, 
 use Rattle.world.specs.declared.wakes.Event.{Event}
 use Rattle.world.specs.declared.wakes.Event.TheVariants.{Quiet}
 use Rattle.world.specs.LinkCalls.{Waited, Offered}
-use Rattle.device_calls.specs.Calls.{Call, Link, Host, Store, Hook, Dropped}
+use Rattle.turn_model.specs.DeviceCalls.Calls.{Call, Link, Host, Store, Hook, Dropped}
 use Rattle.turn_model.specs.Lives.{OpeningMet, Met}
 
 -- a frame that was offered, the interface's number, and whether the link took it

@@ -1,11 +1,11 @@
 -- The leases with which an interface begins in a life, by what its opening read.
 use Rattle.std.specs.Prelude.{List, Option, flat_map, option_and_then}
-use Rattle.lease_text.specs.Leases.{LeaseContent}
-use Rattle.lease6_text.specs.Leases.{Lease6Content}
-use Rattle.settings.specs.declared.interfaces.Managed.{Managed}
-use Rattle.client_model.specs.KeptLeases.{kept_by}
-use Rattle.client_model.specs.KeptLeases6.{kept6_by}
-use Rattle.device_calls.specs.Calls.{Call, store_call}
+use Rattle.turn_model.specs.LeaseText.Leases.{LeaseContent}
+use Rattle.turn_model.specs.Lease6Text.Leases.{Lease6Content}
+use Rattle.turn_model.specs.IfaceSettings.declared.interfaces.Managed.{Managed}
+use Rattle.turn_model.specs.ClientModel.KeptLeases.{kept_by}
+use Rattle.turn_model.specs.ClientModel.KeptLeases6.{kept6_by}
+use Rattle.turn_model.specs.DeviceCalls.Calls.{Call, store_call}
 use Rattle.turn_model.specs.Loading.{lease4_file, lease6_file}
 use Rattle.evidence_words.specs.HostDuids.{read_among}
 

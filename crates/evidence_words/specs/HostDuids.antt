@@ -1,9 +1,9 @@
 -- The DUID of the host in a life, by what its opening read.
 use Rattle.std.specs.Prelude.{ℕ, bytes_eq, if◌then◌else◌, List, [], ◌∷◌, flat_map, Option, Some, None}
 use Rattle.world.specs.StoreCalls.{StoreCall, Reading, ReadFile}
-use Rattle.settings.specs.declared.interfaces.Managed.{Managed}
-use Rattle.client_model.specs.HostDuid.{host_duid}
-use Rattle.device_calls.specs.Calls.{Call, store_call}
+use Rattle.turn_model.specs.IfaceSettings.declared.interfaces.Managed.{Managed}
+use Rattle.turn_model.specs.ClientModel.HostDuid.{host_duid}
+use Rattle.turn_model.specs.DeviceCalls.Calls.{Call, store_call}
 use Rattle.turn_model.specs.Loading.{duid_file}
 
 abbrev pub read_in : (name : List ℕ) → StoreCall → Option Reading

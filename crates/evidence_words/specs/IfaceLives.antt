@@ -4,14 +4,14 @@ use Rattle.std.specs.List.{list_any}
 use Rattle.net_types.specs.Marks.{AreBytes}
 use Rattle.net_types.specs.declared.address.Mac.{Mac}
 use Rattle.world.specs.declared.wakes.Event.TheVariants.{Quiet}
-use Rattle.script_model.specs.IfaceSets.{is_in, is_up}
-use Rattle.client_model.specs.declared.interfaces.Iface.{Iface}
-use Rattle.client_model.specs.ClientSettings.{ask_of}
-use Rattle.client_model.specs.Clients.{frame_of}
-use Rattle.client_model.specs.IfaceSteps.{IfaceStep}
-use Rattle.client_model.specs.Interfaces.{opened}
-use Rattle.client_model.specs.KeptLeases.{Beginning}
-use Rattle.client_model.specs.IfaceTurns.{Turn, iface_turned}
+use Rattle.turn_model.specs.ScriptModel.IfaceSets.{is_in, is_up}
+use Rattle.turn_model.specs.ClientModel.declared.interfaces.Iface.{Iface}
+use Rattle.turn_model.specs.ClientModel.ClientSettings.{ask_of}
+use Rattle.turn_model.specs.ClientModel.Clients.{frame_of}
+use Rattle.turn_model.specs.ClientModel.IfaceSteps.{IfaceStep}
+use Rattle.turn_model.specs.ClientModel.Interfaces.{opened}
+use Rattle.turn_model.specs.ClientModel.KeptLeases.{Beginning}
+use Rattle.turn_model.specs.ClientModel.IfaceTurns.{Turn, iface_turned}
 use Rattle.evidence_words.specs.Entries.{Entry, Offer}
 use Rattle.evidence_words.specs.Inputs.{Site, offers_at}
 

@@ -3,14 +3,14 @@ use Rattle.std.specs.Prelude.{◌≡◌, ◌≢◌, ℕ, Bool, true, false, ◌=
 use Rattle.std.specs.List.{list_any}
 use Rattle.net_types.specs.declared.address.Ip4.{Ip4}
 use Rattle.net_types.specs.declared.address.Mac.{Mac}
-use Rattle.frame_link.specs.declared.arp.ArpView.{ArpView}
-use Rattle.arp_acd.specs.Conflict.{is_used, is_contested}
-use Rattle.lease_text.specs.Leases.{LeaseContent}
-use Rattle.lease6_text.specs.Leases.{Lease6Content}
+use Rattle.turn_model.specs.FrameLink.declared.arp.ArpView.{ArpView}
+use Rattle.turn_model.specs.ArpAcd.Conflict.{is_used, is_contested}
+use Rattle.turn_model.specs.LeaseText.Leases.{LeaseContent}
+use Rattle.turn_model.specs.Lease6Text.Leases.{Lease6Content}
 use Rattle.world.specs.declared.wakes.Event.{Event}
 use Rattle.world.specs.declared.wakes.Event.TheVariants.{Frame, Carrier, Release, Stop}
-use Rattle.settings.specs.declared.interfaces.Managed.{Managed}
-use Rattle.client_model.specs.IfaceTurns.{arp_heard}
+use Rattle.turn_model.specs.IfaceSettings.declared.interfaces.Managed.{Managed}
+use Rattle.turn_model.specs.ClientModel.IfaceTurns.{arp_heard}
 use Rattle.evidence_words.specs.Entries.{Offer, Entry, offers_on}
 
 -- what is known of an interface when a life begins: its settings, the DUID of the host, the hardware addresses of all

@@ -2,9 +2,9 @@
 -- milliseconds.
 use Rattle.std.specs.Prelude.{◌≡◌, ℕ, ◌+◌, ◌≤◌, zero, suc, Bool, true, false, ◌&&◌, List, [], ◌∷◌, ◌++◌, bytes_eq}
 use Rattle.std.specs.List.{list_any, count_by}
-use Rattle.machine.specs.Since.{Since}
+use Rattle.turn_model.specs.Machine.Since.{Since}
 use Rattle.net_types.specs.declared.address.Ip4.{Ip4}
-use Rattle.frame_link.specs.Packets.{probe_text}
+use Rattle.turn_model.specs.FrameLink.Packets.{probe_text}
 use Rattle.evidence_words.specs.Entries.{Entry, Offer}
 use Rattle.evidence_words.specs.Inputs.{Site, offers_at, contests}
 

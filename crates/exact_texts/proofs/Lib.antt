@@ -12,3 +12,5 @@ pub mod Beginnings
 pub mod ExactLives
 pub mod UnfinishedLives
 pub mod ForetoldLives
+pub use Rattle.file_evidence.proofs as FileEvidence
+pub use Rattle.safe_texts.proofs as SafeTexts

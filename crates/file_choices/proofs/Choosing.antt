@@ -4,7 +4,7 @@ use Rattle.std.specs.Prelude.{codes, filter, drop, ◌++◌, ◌-◌, ◌+◌}
 use Rattle.std.specs.List.{AllByRecursion}
 use Rattle.std.proofs.Transfers.{drop-appended}
 use Rattle.std.proofs.lemmas.List.{length-append}
-use Rattle.net_types.proofs.CaseLaws.{split, gated}
+use Rattle.world.proofs.NetTypes.CaseLaws.{split, gated}
 use Rattle.world.specs.FileNames.{aside_of, is_name}
 use Rattle.world.specs.FileLists.{StoreFile, file_name, file_at, put_file, drop_file, rename_file, is_aside}
 use Rattle.world.specs.CrashImages.{ChangedFile, changed_file, unchanged}

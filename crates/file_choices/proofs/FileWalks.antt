@@ -1,6 +1,6 @@
 -- What one call makes of what may be left of a file.
 use Rattle.std.proofs.Common.{◌≡◌, ℕ, Bool, true, false, not, ◌||◌, ◌&&◌, inl, inr, List, ◌∷◌, Option, Some, None, refl, sym, ap, subst, ◌∙◌, cond}
-use Rattle.net_types.proofs.CaseLaws.{split}
+use Rattle.world.proofs.NetTypes.CaseLaws.{split}
 use Rattle.world.specs.FileNames.{aside_of, is_name}
 use Rattle.world.specs.FileLists.{StoreFile, file_at, put_file, rename_file}
 use Rattle.world.specs.CrashImages.{ChangedFile, changed_name, changed_file, unchanged, MayBe}

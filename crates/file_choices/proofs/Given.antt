@@ -1,7 +1,7 @@
 -- What is left of a file was left before, or was given to it by the calls.
 use Rattle.std.proofs.Common.{◌≡◌, ℕ, zero, suc, Bool, true, false, not, ◌||◌, ◌&&◌, ◌⊎◌, inl, inr, List, [], ◌∷◌, take, Option, Some, None, refl, sym, subst, ◌∙◌, cond}
 use Rattle.std.specs.List.{AllByRecursion}
-use Rattle.net_types.proofs.CaseLaws.{split}
+use Rattle.world.proofs.NetTypes.CaseLaws.{split}
 use Rattle.world.specs.FileNames.{aside_of, is_name}
 use Rattle.world.specs.FileLists.{StoreFile, is_aside}
 use Rattle.world.specs.CrashImages.{ChangedFile, IsAmong, MayBe}

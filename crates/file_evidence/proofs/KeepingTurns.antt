@@ -17,10 +17,10 @@ use Rattle.world.proofs.NameOrder.{name_itself}
 use Rattle.file_choices.specs.Savings.{Saving, Idle, Written, Synced, Put, saving_after, IsFree, is_kept, MayCome, NamesAsides, AreInTurn}
 use Rattle.file_choices.proofs.Choosing.{stay_whole}
 use Rattle.settings.specs.declared.interfaces.Managed.{Managed}
-use Rattle.client_model.specs.declared.interfaces.Iface.{Iface}
-use Rattle.client_model.specs.ClientSettings.{runs_dhcp4}
-use Rattle.client_model.specs.ClientSettings6.{runs_dhcp6, some_need_duid}
-use Rattle.client_model.specs.Clients.{ClientStep, rows_of}
+use Rattle.turn_model.specs.ClientModel.declared.interfaces.Iface.{Iface}
+use Rattle.turn_model.specs.ClientModel.ClientSettings.{runs_dhcp4}
+use Rattle.turn_model.specs.ClientModel.ClientSettings6.{runs_dhcp6, some_need_duid}
+use Rattle.turn_model.specs.ClientModel.Clients.{ClientStep, rows_of}
 use Rattle.machine.specs.Moment.{moment_of}
 use Rattle.device_calls.specs.Calls.{Call, Link, Host, Store, Hook, Dropped, Ask, AnswerTo, made, store_call, Read, SyncAside, RenameAside, Settle}
 use Rattle.device_calls.specs.Programs.{Asks, Done, Then, after, Answers, calls_with, result_with}

@@ -3,8 +3,8 @@
 use Rattle.std.specs.Prelude.{ℕ, List, map, Option, None, decimal, ◌==◌, find}
 use Rattle.std.specs.Option.{option_map}
 use Rattle.net_types.specs.AddressText.{ip4_text, ip6_text}
-use Rattle.domain_names.specs.NameText.{text_in}
-use Rattle.domain_names.specs.SearchList.{search_in}
+use Rattle.v4_options.specs.DomainNames.NameText.{text_in}
+use Rattle.v4_options.specs.DomainNames.SearchList.{search_in}
 use Rattle.v4_options.specs.Numbers.{addr_in, addrs_in, u16_in, u32_in}
 use Rattle.v4_options.specs.Routes.{routes_in}
 use Rattle.v6_options.specs.Readers.{dns6_in, search6_in}

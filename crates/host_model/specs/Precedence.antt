@@ -2,7 +2,7 @@
 use Rattle.std.specs.Prelude.{Bool, false, not, ◌&&◌, ◌||◌, ◌==◌, nat_lt, List, filter, flat_map}
 use Rattle.std.specs.List.{list_any}
 use Rattle.std.specs.Ordering.{is_lt}
-use Rattle.net_types.specs.declared.address.Net.{Net}
+use Rattle.world.specs.NetTypes.declared.address.Net.{Net}
 use Rattle.world.specs.declared.rows.HostRow.{HostRow}
 use Rattle.world.specs.declared.rows.HostRow.TheVariants.{Addr, Route}
 use Rattle.world.specs.RowOrder.{family, net_number, net_len, row_iface, row_cmp, in_row_order}

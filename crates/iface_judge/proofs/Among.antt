@@ -8,9 +8,9 @@ use Rattle.settings.specs.declared.interfaces.Managed.{Managed}
 use Rattle.v6_client_laws.proofs.Given.{met}
 use Rattle.evidence_words.specs.Entries.{Entry}
 use Rattle.evidence_words.specs.Inputs.{Site}
-use Rattle.evidence.specs.Laws.{HasBasisIn}
-use Rattle.lease6_judge.specs.HeardBasis.{HeardBasis}
-use Rattle.kept_judge.proofs.Lists.{has_any}
+use Rattle.share_judge.specs.Evidence.Laws.{HasBasisIn}
+use Rattle.item_judge.specs.Lease6Judge.HeardBasis.{HeardBasis}
+use Rattle.share_judge.proofs.KeptJudge.Lists.{has_any}
 use Rattle.audit_seats.specs.Tests.{judged_by, rests_on}
 use Rattle.iface_judge.specs.Among.{AllAreTold}
 use Rattle.iface_judge.specs.Joined.{is_own, is_shared, of_number}

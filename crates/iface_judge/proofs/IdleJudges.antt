@@ -12,25 +12,25 @@ use Rattle.v4_client.specs.declared.states.Answer4.{Answer4}
 use Rattle.v4_client.specs.declared.states.Answer4.TheVariants.{Nothing}
 use Rattle.v4_client.specs.Messages.{Arrival}
 use Rattle.v6_client.specs.declared.setup.IaAsk.{IaAsk}
-use Rattle.client_model.specs.ClientSettings.{settings_of}
+use Rattle.evidence_words.specs.ClientModel.ClientSettings.{settings_of}
 use Rattle.evidence_words.specs.Entries.{Entry}
 use Rattle.evidence_words.specs.Inputs.{Site, carrier_after, has_carrier, index_at, is_stopped}
-use Rattle.lease_evidence.specs.Exchanges.{Numbered, Seen, messages_at, seen_in, show}
-use Rattle.lease_evidence.specs.LeaseBasis.{tells_end}
-use Rattle.lease_evidence.specs.Replies.{reply_at, reply_by}
-use Rattle.lease6_evidence.specs.Exchanges6.{Numbered6, messages6_at, seen6_in, show6}
-use Rattle.lease6_evidence.specs.Replies6.{asks_at, message6_at}
-use Rattle.probe_table.specs.ProbeTimes.{is_past, times_in}
-use Rattle.probe_table.specs.declared.times.ProbeTimes.{ProbeTimes}
+use Rattle.share_judge.specs.LeaseEvidence.Exchanges.{Numbered, Seen, messages_at, seen_in, show}
+use Rattle.share_judge.specs.LeaseEvidence.LeaseBasis.{tells_end}
+use Rattle.share_judge.specs.LeaseEvidence.Replies.{reply_at, reply_by}
+use Rattle.item_judge.specs.Lease6Evidence.Exchanges6.{Numbered6, messages6_at, seen6_in, show6}
+use Rattle.item_judge.specs.Lease6Evidence.Replies6.{asks_at, message6_at}
+use Rattle.static_judge.specs.ProbeTable.ProbeTimes.{is_past, times_in}
+use Rattle.static_judge.specs.ProbeTable.declared.times.ProbeTimes.{ProbeTimes}
 use Rattle.static_judge.specs.Judge as of_statics
 use Rattle.static_judge.specs.declared.judge.StaticJudge.{StaticJudge}
 use Rattle.lease_judge.specs.Judge.{Judge, hears, hears_in, is_calm, judge_in, sees, stays, told}
 use Rattle.lease_judge.specs.ProbedTurns.{IsSettled, calm_in, probed_in}
 use Rattle.lease_judge.specs.Turns as of_lease
-use Rattle.lease6_judge.specs.HeardTerms.{good_in, good_reply, heard_by, heard_in}
-use Rattle.lease6_judge.specs.Terms.{Term, if_left, is_alone, is_left}
-use Rattle.lease6_judge.specs.Terms as terms
-use Rattle.lease6_judge.specs.Watching.{Replied, Watch, watch_in}
+use Rattle.item_judge.specs.Lease6Judge.HeardTerms.{good_in, good_reply, heard_by, heard_in}
+use Rattle.item_judge.specs.Lease6Judge.Terms.{Term, if_left, is_alone, is_left}
+use Rattle.item_judge.specs.Lease6Judge.Terms as terms
+use Rattle.item_judge.specs.Lease6Judge.Watching.{Replied, Watch, watch_in}
 use Rattle.item_judge.specs.Asking as asking
 use Rattle.item_judge.specs.Asking.{AskingContent, Heard, all_next, asking_after, asking_shown, heard_at, with_answer}
 use Rattle.item_judge.specs.Judging.{TellsItems, TellsTables}
@@ -38,16 +38,16 @@ use Rattle.item_judge.specs.Judging as of_items
 use Rattle.item_judge.specs.Telling.{asking_in}
 use Rattle.item_judge.specs.declared.judge.ItemJudge.{ItemJudge}
 use Rattle.item_judge.specs.declared.table.ItemTable.{ItemTable}
-use Rattle.kept_judge.specs.Asking4 as asking4
-use Rattle.kept_judge.specs.Asking4.{Tells4, kept4_in}
-use Rattle.kept_judge.specs.Asking6 as asking6
-use Rattle.kept_judge.specs.Asking6.{Tells6, kept6_in}
-use Rattle.kept_judge.specs.Staying as staying
-use Rattle.kept_judge.specs.declared.standing.Asked4.{Asked4}
-use Rattle.kept_judge.specs.declared.standing.Asked4.TheVariants as asked4
-use Rattle.kept_judge.specs.declared.standing.Asked6.{Asked6}
-use Rattle.kept_judge.specs.declared.standing.Kept4.{Kept4}
-use Rattle.kept_judge.specs.declared.standing.Kept6.{Kept6}
+use Rattle.share_judge.specs.KeptJudge.Asking4 as asking4
+use Rattle.share_judge.specs.KeptJudge.Asking4.{Tells4, kept4_in}
+use Rattle.share_judge.specs.KeptJudge.Asking6 as asking6
+use Rattle.share_judge.specs.KeptJudge.Asking6.{Tells6, kept6_in}
+use Rattle.share_judge.specs.KeptJudge.Staying as staying
+use Rattle.share_judge.specs.KeptJudge.declared.standing.Asked4.{Asked4}
+use Rattle.share_judge.specs.KeptJudge.declared.standing.Asked4.TheVariants as asked4
+use Rattle.share_judge.specs.KeptJudge.declared.standing.Asked6.{Asked6}
+use Rattle.share_judge.specs.KeptJudge.declared.standing.Kept4.{Kept4}
+use Rattle.share_judge.specs.KeptJudge.declared.standing.Kept6.{Kept6}
 use Rattle.audit_seats.specs.Concern.{concerns}
 use Rattle.iface_judge.specs.Telling.{TellsKept6}
 use Rattle.iface_judge.proofs.IdleTurns.{alone, carrier_kept, items_stay, kept_stays, lease_stays, no_arrival, no_input, no_messages4, no_messages6, no_stop, none_came6, times_kept}

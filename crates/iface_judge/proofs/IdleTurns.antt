@@ -11,21 +11,21 @@ use Rattle.v4_frames.specs.Heard.{HeardMessage, heard4_in}
 use Rattle.v6_frames.specs.Heard.{HeardMessage6, heard6_in}
 use Rattle.world.specs.declared.wakes.Event.{Event}
 use Rattle.world.specs.declared.wakes.Event.TheVariants.{Frame, Carrier, Duplicate, Release, Rebind, Stop, Quiet, End}
-use Rattle.client_model.specs.Dhcp4Steps.{arrival_at}
-use Rattle.client_model.specs.IfaceTurns.{arp_heard}
+use Rattle.evidence_words.specs.ClientModel.Dhcp4Steps.{arrival_at}
+use Rattle.evidence_words.specs.ClientModel.IfaceTurns.{arp_heard}
 use Rattle.evidence_words.specs.Entries.{Entry, Offer}
 use Rattle.evidence_words.specs.Inputs.{Site, arp_on, carrier_after, contests, index_at, is_stop, offers_at, tells_contest, tells_use, uses}
 use Rattle.evidence_words.specs.Probed.{probe_taken}
-use Rattle.lease_evidence.specs.Replies.{arrival_in, message_on}
-use Rattle.lease_evidence.specs.Exchanges.{message_of, messages_at}
-use Rattle.lease6_evidence.specs.Exchanges6.{message6_of, messages6_at}
-use Rattle.lease6_evidence.specs.Replies6.{message6_at, message6_on}
-use Rattle.probe_table.specs.ProbeTimes.{TurnTest, probe_turn, times_in}
-use Rattle.probe_table.proofs.Standing.{all_kept}
-use Rattle.local_judge.specs.Choices.{goes_on}
+use Rattle.share_judge.specs.LeaseEvidence.Replies.{arrival_in, message_on}
+use Rattle.share_judge.specs.LeaseEvidence.Exchanges.{message_of, messages_at}
+use Rattle.item_judge.specs.Lease6Evidence.Exchanges6.{message6_of, messages6_at}
+use Rattle.item_judge.specs.Lease6Evidence.Replies6.{message6_at, message6_on}
+use Rattle.static_judge.specs.ProbeTable.ProbeTimes.{TurnTest, probe_turn, times_in}
+use Rattle.static_judge.proofs.ProbeTable.Standing.{all_kept}
+use Rattle.lease_judge.specs.LocalJudge.Choices.{goes_on}
 use Rattle.lease_judge.specs.Judge as lease
-use Rattle.lease6_judge.specs.Terms as items
-use Rattle.kept_judge.specs.Staying as kept
+use Rattle.item_judge.specs.Lease6Judge.Terms as items
+use Rattle.share_judge.specs.KeptJudge.Staying as kept
 use Rattle.audit_seats.specs.Concern.{concerns, is_input, is_offered}
 
 pub neither : (a b : Bool) → (a || b) ≡ false → (a ≡ false) × (b ≡ false)

@@ -10,17 +10,17 @@ use Rattle.lease_text.specs.Leases.{lease_content}
 use Rattle.lease6_text.specs.Leases.{Lease6Content, lease6_content}
 use Rattle.evidence_words.specs.Entries.{Entry}
 use Rattle.evidence_words.specs.Inputs as told_of
-use Rattle.lease_evidence.specs.Exchanges.{Numbered}
-use Rattle.lease6_evidence.specs.Exchanges6.{Numbered6}
+use Rattle.share_judge.specs.LeaseEvidence.Exchanges.{Numbered}
+use Rattle.item_judge.specs.Lease6Evidence.Exchanges6.{Numbered6}
 use Rattle.audit_words.specs.Shown.{site_shown}
 use Rattle.audit_words.specs.declared.shown.Site.{Site}
 use Rattle.lease_judge.specs.Answers as of_lease
 use Rattle.item_judge.specs.Replying.{has_good}
-use Rattle.kept_judge.specs.Asking4 as asking4
-use Rattle.kept_judge.specs.Asking4.{Tells4, kept4_in}
-use Rattle.kept_judge.specs.Asking6.{Tells6, gives_address6, is_good_in, is_kept_address6, kept6_in}
-use Rattle.kept_judge.specs.declared.standing.Kept4.{Kept4}
-use Rattle.kept_judge.specs.declared.standing.Kept6.{Kept6}
+use Rattle.share_judge.specs.KeptJudge.Asking4 as asking4
+use Rattle.share_judge.specs.KeptJudge.Asking4.{Tells4, kept4_in}
+use Rattle.share_judge.specs.KeptJudge.Asking6.{Tells6, gives_address6, is_good_in, is_kept_address6, kept6_in}
+use Rattle.share_judge.specs.KeptJudge.declared.standing.Kept4.{Kept4}
+use Rattle.share_judge.specs.KeptJudge.declared.standing.Kept6.{Kept6}
 use Rattle.share_judge.specs.KeptShares.{is_kept_share, lease_shares}
 use Rattle.iface_judge.specs.Telling.{TellsKept6}
 

@@ -5,19 +5,19 @@ use Rattle.net_types.specs.declared.address.Net.{Net}
 use Rattle.evidence_words.specs.Entries.{Entry}
 use Rattle.evidence_words.specs.IfaceLives.{now_in}
 use Rattle.evidence_words.specs.Inputs.{Site}
-use Rattle.evidence.specs.Laws.{BasisWith}
+use Rattle.share_judge.specs.Evidence.Laws.{BasisWith}
 use Rattle.static_judge.specs.Judge as statics
 use Rattle.static_judge.proofs.Configured as of_statics
-use Rattle.local_judge.specs.Judge as local
-use Rattle.local_judge.proofs.Telling as of_local
+use Rattle.lease_judge.specs.LocalJudge.Judge as local
+use Rattle.lease_judge.proofs.LocalJudge.Telling as of_local
 use Rattle.lease_judge.specs.Leased.{is_leased}
 use Rattle.lease_judge.proofs.LeasesTold.{leases_judged}
 use Rattle.item_judge.specs.Judging.{is_given}
 use Rattle.item_judge.proofs.Giving.{addresses_given}
-use Rattle.kept_judge.specs.Asking4.{is_kept4}
-use Rattle.kept_judge.specs.Asking6.{is_kept_address6}
-use Rattle.kept_judge.proofs.Judged4.{addresses_judged4}
-use Rattle.kept_judge.proofs.Judged6.{addresses_judged6}
+use Rattle.share_judge.specs.KeptJudge.Asking4.{is_kept4}
+use Rattle.share_judge.specs.KeptJudge.Asking6.{is_kept_address6}
+use Rattle.share_judge.proofs.KeptJudge.Judged4.{addresses_judged4}
+use Rattle.share_judge.proofs.KeptJudge.Judged6.{addresses_judged6}
 use Rattle.iface_judge.specs.Joined.{is_granted, is_kept, is_own}
 use Rattle.iface_judge.specs.Laws.{HeardAddress, OwnAddressesAreTold}
 

@@ -16,16 +16,16 @@ use Rattle.v6_options.specs.declared.ia.ItemSaid.{ItemSaid}
 use Rattle.v6_client.specs.declared.setup.IaAsk.{IaAsk}
 use Rattle.v6_client_laws.specs.GivenItems.{IsHeldAs, MayBeHeld}
 use Rattle.v6_client_laws.proofs.Given.{met}
-use Rattle.client_model.specs.WantedRows.{first_address}
+use Rattle.evidence_words.specs.ClientModel.WantedRows.{first_address}
 use Rattle.evidence_words.specs.Entries.{Entry}
 use Rattle.evidence_words.specs.IfaceLives.{now_in}
 use Rattle.evidence_words.specs.Inputs.{Site}
-use Rattle.evidence.specs.ShareBasis.{ShareBasisOf}
-use Rattle.lease6_evidence.specs.KeptBasis6.{KeptBasis6}
-use Rattle.lease6_judge.specs.HeardBasis.{HeardBasis, HeardItem, Spares}
+use Rattle.share_judge.specs.Evidence.ShareBasis.{ShareBasisOf}
+use Rattle.item_judge.specs.Lease6Evidence.KeptBasis6.{KeptBasis6}
+use Rattle.item_judge.specs.Lease6Judge.HeardBasis.{HeardBasis, HeardItem, Spares}
 use Rattle.item_judge.specs.Judging.{is_delegated}
 use Rattle.item_judge.proofs.Giving.{prefixes_delegated}
-use Rattle.kept_judge.proofs.Lists.{has_any}
+use Rattle.share_judge.proofs.KeptJudge.Lists.{has_any}
 use Rattle.share_judge.specs.declared.prefix.HeldPrefix.{HeldPrefix}
 use Rattle.share_judge.specs.KeptShares.{is_kept_share}
 use Rattle.share_judge.specs.Sharing.{shares_out}

@@ -1,8 +1,8 @@
 -- Whether an address rests on what the managed interfaces showed, by what is told of each.
-use Rattle.audit_model.specs.Laws.{Decides}
+use Rattle.audit_seats.specs.AuditModel.Laws.{Decides}
 use Rattle.audit_seats.specs.Tests.{judged_by}
-use Rattle.evidence.specs.Laws.{HasBasisIn}
-use Rattle.lease6_judge.specs.HeardBasis.{HeardBasis}
+use Rattle.share_judge.specs.Evidence.Laws.{HasBasisIn}
+use Rattle.item_judge.specs.Lease6Judge.HeardBasis.{HeardBasis}
 use Rattle.iface_judge.specs.Joined.{is_own, is_shared}
 use Rattle.iface_judge.specs.Laws.{HeardAddress}
 

@@ -6,11 +6,11 @@ use Rattle.evidence_words.specs.Entries.{Entry}
 use Rattle.evidence_words.specs.IfaceLives.{now_in}
 use Rattle.evidence_words.specs.Inputs.{Site}
 use Rattle.static_judge.specs.Judge as statics
-use Rattle.local_judge.specs.Judge as local
+use Rattle.lease_judge.specs.LocalJudge.Judge as local
 use Rattle.lease_judge.specs.Leased.{is_leased}
 use Rattle.item_judge.specs.Judging.{is_given}
-use Rattle.kept_judge.specs.Asking4.{is_kept4}
-use Rattle.kept_judge.specs.Asking6.{is_kept_address6}
+use Rattle.share_judge.specs.KeptJudge.Asking4.{is_kept4}
+use Rattle.share_judge.specs.KeptJudge.Asking6.{is_kept_address6}
 use Rattle.share_judge.specs.KeptShares.{is_kept_share}
 use Rattle.iface_judge.specs.HeardShares.{is_heard_share}
 

@@ -5,9 +5,9 @@ use Rattle.net_types.specs.declared.interface.IfIndex.{IfIndex}
 use Rattle.evidence_words.specs.Entries.{Entry}
 use Rattle.evidence_words.specs.IfaceLives.{now_in}
 use Rattle.evidence_words.specs.Inputs.{Site}
-use Rattle.evidence.specs.Laws.{BasisWith, RestsWith}
-use Rattle.evidence.specs.ShareBasis.{ShareBasisOf}
-use Rattle.lease6_judge.specs.HeardBasis.{HeardAddressBasis, HeardBasis}
+use Rattle.share_judge.specs.Evidence.Laws.{BasisWith, RestsWith}
+use Rattle.share_judge.specs.Evidence.ShareBasis.{ShareBasisOf}
+use Rattle.item_judge.specs.Lease6Judge.HeardBasis.{HeardAddressBasis, HeardBasis}
 use Rattle.iface_judge.specs.Joined.{is_own, is_shared}
 
 -- an address that the Replies of DHCPv6 servers give, now

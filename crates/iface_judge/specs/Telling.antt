@@ -6,22 +6,22 @@ use Rattle.audit_words.specs.Shown.{offer_shown}
 use Rattle.audit_words.specs.declared.shown.Offer.{Offer}
 use Rattle.evidence_words.specs.Entries.{Entry, offers_on}
 use Rattle.evidence_words.specs.Inputs.{Site, has_carrier, index_at}
-use Rattle.probe_table.specs.ProbeTimes.{times_in}
+use Rattle.static_judge.specs.ProbeTable.ProbeTimes.{times_in}
 use Rattle.static_judge.specs.Judge as of_statics
-use Rattle.local_judge.specs.Choices.{choice_in, is_calm}
-use Rattle.local_judge.specs.Judge as of_local
-use Rattle.local_judge.specs.Settled as local_turns
-use Rattle.local_judge.specs.declared.choices.Choice.{Choice}
-use Rattle.local_judge.specs.declared.judge.LocalJudge.{LocalJudge}
+use Rattle.lease_judge.specs.LocalJudge.Choices.{choice_in, is_calm}
+use Rattle.lease_judge.specs.LocalJudge.Judge as of_local
+use Rattle.lease_judge.specs.LocalJudge.Settled as local_turns
+use Rattle.lease_judge.specs.LocalJudge.declared.choices.Choice.{Choice}
+use Rattle.lease_judge.specs.LocalJudge.declared.judge.LocalJudge.{LocalJudge}
 use Rattle.lease_judge.specs.ProbedTurns as lease_turns
 use Rattle.lease_judge.specs.Turns as of_lease
 use Rattle.lease_judge.specs.Turns.{JudgeContent}
-use Rattle.lease6_evidence.specs.Exchanges6.{message6_of}
+use Rattle.item_judge.specs.Lease6Evidence.Exchanges6.{message6_of}
 use Rattle.item_judge.specs.Judging as of_items
-use Rattle.kept_judge.specs.Asking4.{Tells4}
-use Rattle.kept_judge.specs.Asking6.{Tells6, spoken_of}
-use Rattle.kept_judge.specs.declared.standing.Kept6.{Kept6}
-use Rattle.kept_judge.specs.declared.standing.Spoken6.{Spoken6}
+use Rattle.share_judge.specs.KeptJudge.Asking4.{Tells4}
+use Rattle.share_judge.specs.KeptJudge.Asking6.{Tells6, spoken_of}
+use Rattle.share_judge.specs.KeptJudge.declared.standing.Kept6.{Kept6}
+use Rattle.share_judge.specs.KeptJudge.declared.standing.Spoken6.{Spoken6}
 use Rattle.iface_judge.specs.declared.judge.IfaceJudge.{IfaceJudge}
 
 -- the interface's own messages of DHCPv6 among the frames of a turn, by kind and transaction id

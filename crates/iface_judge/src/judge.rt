@@ -12,10 +12,9 @@ use crate::sharing::is_heard_share;
 use audit_seats::{Judge, concerns};
 use audit_words::{Entry, Site};
 use item_judge::ItemJudge;
-use kept_judge::{Kept4, Kept6};
-use lease_judge::LeaseJudge;
-use local_judge::LocalJudge;
+use lease_judge::{LeaseJudge, LocalJudge};
 use net_types::{IfIndex, Net, NoMemory};
+use share_judge::{Kept4, Kept6};
 use static_judge::StaticJudge;
 use std::alloc::Global;
 

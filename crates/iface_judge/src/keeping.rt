@@ -6,18 +6,17 @@ ghost use Rattle.evidence_words.specs.Entries as told;
 ghost use Rattle.audit_words.specs.Shown.{FitsSite, entry_shown, site_shown};
 ghost use Rattle.lease_judge.specs.Turns as lease_turns;
 ghost use Rattle.item_judge.specs.Judging as item_turns;
-ghost use Rattle.kept_judge.specs.Asking4.{Tells4};
-ghost use Rattle.kept_judge.specs.Asking6.{Tells6, is_kept_address6};
+ghost use Rattle.share_judge.specs.KeptJudge.Asking4.{Tells4};
+ghost use Rattle.share_judge.specs.KeptJudge.Asking6.{Tells6, is_kept_address6};
 ghost use Rattle.share_judge.specs.KeptShares.{is_kept_share};
 ghost use Rattle.iface_judge.specs.Telling.{TellsKept6};
 
 use crate::speaking::spoken_all;
 use audit_words::{Entry, Site};
 use item_judge::ItemJudge;
-use kept_judge::{Kept4, Kept6};
 use lease_judge::LeaseJudge;
 use net_types::{IfIndex, Net, NoMemory};
-use share_judge::kept_shares;
+use share_judge::{Kept4, Kept6, kept_shares};
 use std::alloc::Global;
 
 /// The kept lease of DHCPv4 after a turn more, which the judge of leases has seen (RFC 2131, section 3.2).

@@ -7,5 +7,6 @@ mod laws;
 mod sharing;
 mod speaking;
 
+pub use audit_seats::Judge;
 pub use judge::IfaceJudge;
 pub use laws::{all_addresses_are_told, own_addresses_are_told, shared_addresses_are_told};

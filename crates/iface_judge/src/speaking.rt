@@ -3,14 +3,14 @@
 
 ghost use Rattle.std.specs.Prelude.{◌≡◌, ◌∷◌, ◌++◌, [], IfOk, OnOk, option_map};
 ghost use Rattle.audit_words.specs.Shown.{offer_shown, site_shown};
-ghost use Rattle.lease6_evidence.specs.Exchanges6.{message6_of};
-ghost use Rattle.kept_judge.specs.Asking6.{spoken_of};
+ghost use Rattle.item_judge.specs.Lease6Evidence.Exchanges6.{message6_of};
+ghost use Rattle.share_judge.specs.KeptJudge.Asking6.{spoken_of};
 ghost use Rattle.iface_judge.specs.Telling.{spoken_by};
 
 use audit_words::{Offer, Site};
 use item_judge::message6_of;
-use kept_judge::Spoken6;
 use net_types::NoMemory;
+use share_judge::Spoken6;
 use std::alloc::Global;
 
 /// What a frame says, where it is a message of the interface's own.

@@ -18,9 +18,9 @@ use Rattle.v6_options.specs.OptionArea.{Instance, instances_in}
 use Rattle.v6_options.specs.Statuses.{status_in, success}
 use Rattle.v6_message.specs.Replies.{Content6}
 use Rattle.v6_client.specs.declared.setup.IaAsk.{IaAsk}
-use Rattle.v6_client_laws.proofs.FirstItems.{none_in}
-use Rattle.v6_client_laws.proofs.Given.{met}
-use Rattle.v6_client_laws.specs.GivenItems.{IsHeldAs}
+use Rattle.lease6_evidence.proofs.V6ClientLaws.FirstItems.{none_in}
+use Rattle.lease6_evidence.proofs.V6ClientLaws.Given.{met}
+use Rattle.lease6_evidence.specs.V6ClientLaws.GivenItems.{IsHeldAs}
 use Rattle.evidence_words.specs.Entries.{Entry}
 use Rattle.evidence_words.specs.Inputs.{Site}
 use Rattle.lease6_evidence.specs.Replies6.{asks_at}

@@ -7,3 +7,4 @@ pub mod Giving
 pub mod OwnWalks
 mod Replied
 mod HearingTold
+pub use Rattle.lease6_judge.proofs as Lease6Judge

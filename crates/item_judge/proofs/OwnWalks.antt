@@ -6,7 +6,7 @@ use Rattle.v6_options.specs.Ias.{IaContent}
 use Rattle.v6_message.specs.ReadBack.{asked_in}
 use Rattle.v6_message.specs.Requests.{AskedContent}
 use Rattle.v6_client.specs.declared.setup.IaAsk.{IaAsk}
-use Rattle.client_model.specs.ClientSettings6.{ask_for}
+use Rattle.evidence_words.specs.ClientModel.ClientSettings6.{ask_for}
 use Rattle.evidence_words.specs.Inputs.{Site}
 use Rattle.lease6_evidence.specs.OwnMessages6 as own
 use Rattle.lease6_judge.specs.Terms.{not_held}

@@ -8,3 +8,5 @@ pub mod Turns
 pub mod Judging
 pub mod Replying
 pub mod Hearing
+pub use Rattle.lease6_evidence.specs as Lease6Evidence
+pub use Rattle.lease6_judge.specs as Lease6Judge

@@ -3,7 +3,7 @@
 ghost use Rattle.std.specs.Prelude.{◌≡◌, ◌<◌, ◌^◌, [], ◌∷◌, List, map, IfOk};
 ghost use Rattle.std.specs.List.{list_any};
 ghost use Rattle.std.specs.Option.{option_map};
-ghost use Rattle.client_model.specs.ClientSettings6.{ask_for};
+ghost use Rattle.evidence_words.specs.ClientModel.ClientSettings6.{ask_for};
 ghost use Rattle.evidence_words.specs.Entries as told;
 ghost use Rattle.evidence_words.specs.Inputs as inputs;
 ghost use Rattle.lease6_evidence.specs.Exchanges6.{seen6_in};

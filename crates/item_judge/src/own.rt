@@ -10,7 +10,7 @@ ghost use Rattle.own_frames6.specs.Shown.{said_shown, sent_shown};
 ghost use Rattle.audit_words.specs.Shown.{offer_shown, site_shown};
 ghost use Rattle.lease6_evidence.specs.Exchanges6.{is_own, message6_of};
 ghost use Rattle.lease6_evidence.specs.OwnMessages6 as own;
-ghost use Rattle.client_model.specs.ClientSettings6.{ask_for};
+ghost use Rattle.evidence_words.specs.ClientModel.ClientSettings6.{ask_for};
 ghost use Rattle.item_judge.specs.Own.{is_given_back};
 
 use audit_words::{Offer, Site};

@@ -13,12 +13,12 @@ use Rattle.v4_frames.specs.declared.sent.Sent4.{Sent4}
 use Rattle.v4_client.specs.declared.states.Answer4.{Answer4}
 use Rattle.v4_client.specs.declared.states.Answer4.TheVariants as answer
 use Rattle.v4_client.specs.Saying.{no_address}
-use Rattle.evidence_words.specs.Entries.{Entry}
-use Rattle.evidence_words.specs.Inputs.{GoesOn, Site, StaysOn, carrier_after, has_carrier, index_at}
-use Rattle.lease_evidence.specs.Exchanges.{Numbered, Seen, exchange_of, messages_at, opens, requests, says, seen_in, show, shows}
-use Rattle.lease_evidence.specs.KeptBasis4.{AsksAgain, AsksAlone, IsAcknowledged, IsUnrefused, Sometime, speaks}
-use Rattle.lease_evidence.specs.LeaseBasis.{GoodAck, GoodNak, GrantsNothing}
-use Rattle.lease_evidence.specs.Replies.{reply_at}
+use Rattle.audit_words.specs.EvidenceWords.Entries.{Entry}
+use Rattle.audit_words.specs.EvidenceWords.Inputs.{GoesOn, Site, StaysOn, carrier_after, has_carrier, index_at}
+use Rattle.lease6_evidence.specs.LeaseEvidence.Exchanges.{Numbered, Seen, exchange_of, messages_at, opens, requests, says, seen_in, show, shows}
+use Rattle.lease6_evidence.specs.LeaseEvidence.KeptBasis4.{AsksAgain, AsksAlone, IsAcknowledged, IsUnrefused, Sometime, speaks}
+use Rattle.lease6_evidence.specs.LeaseEvidence.LeaseBasis.{GoodAck, GoodNak, GrantsNothing}
+use Rattle.lease6_evidence.specs.LeaseEvidence.Replies.{reply_at}
 use Rattle.kept_judge.specs.Staying.{stays}
 use Rattle.kept_judge.proofs.Left.{does_go, goes}
 use Rattle.kept_judge.specs.declared.standing.Asked4.{Asked4}

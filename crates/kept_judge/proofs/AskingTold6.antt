@@ -10,9 +10,9 @@ use Rattle.v6_message.specs.Replies.{Content6}
 use Rattle.v6_frames.specs.Spelled.{Sent6}
 use Rattle.v6_client.specs.declared.times.TheConstants.{RESTART_TIME}
 use Rattle.v6_client.specs.Reading.{serves}
-use Rattle.v6_client_laws.proofs.Given.{messages_serve}
-use Rattle.evidence_words.specs.Entries.{Entry}
-use Rattle.evidence_words.specs.Inputs.{GoesOn, Site, StaysOn, carrier_after, has_carrier, index_at}
+use Rattle.lease6_evidence.proofs.V6ClientLaws.Given.{messages_serve}
+use Rattle.audit_words.specs.EvidenceWords.Entries.{Entry}
+use Rattle.audit_words.specs.EvidenceWords.Inputs.{GoesOn, Site, StaysOn, carrier_after, has_carrier, index_at}
 use Rattle.lease6_evidence.specs.Exchanges6.{Numbered6, messages6_at, seen6_in}
 use Rattle.lease6_evidence.specs.KeptBasis6.{HearsNoReply, IsRebind, RebindsAlone, SaysNone6, StartsAsking}
 use Rattle.lease6_evidence.specs.Replies6.{GoodReply, answers, asks_at, message6_at}

@@ -10,9 +10,9 @@ use Rattle.net_types.specs.declared.address.Net.TheVariants.{V4, V6}
 use Rattle.net_types.specs.declared.address.Net4.{Net4}
 use Rattle.lease_text.specs.Leases.{LeaseContent}
 use Rattle.v4_client.specs.Answers.{is_unexpired}
-use Rattle.evidence_words.specs.Entries.{Entry}
-use Rattle.evidence_words.specs.Inputs.{Site, StaysOn}
-use Rattle.lease_evidence.specs.KeptBasis4.{IsUnrefused, KeptBasis4, speaks}
+use Rattle.audit_words.specs.EvidenceWords.Entries.{Entry}
+use Rattle.audit_words.specs.EvidenceWords.Inputs.{Site, StaysOn}
+use Rattle.lease6_evidence.specs.LeaseEvidence.KeptBasis4.{IsUnrefused, KeptBasis4, speaks}
 use Rattle.kept_judge.specs.declared.standing.Asked4.{Asked4}
 use Rattle.kept_judge.specs.declared.standing.Kept4.{Kept4}
 use Rattle.kept_judge.specs.declared.standing.Asked4.TheVariants.{Nothing, Again, Over}

@@ -15,10 +15,10 @@ use Rattle.lease6_text.specs.LineParts.{is_ia, is_same_kind}
 use Rattle.v6_client.specs.declared.setup.IaAsk.{IaAsk}
 use Rattle.v6_client.specs.declared.times.TheConstants.{RESTART_TIME}
 use Rattle.v6_client.specs.Items.{is_live}
-use Rattle.v6_client_laws.proofs.Given.{met}
-use Rattle.evidence_words.specs.Entries.{Entry}
+use Rattle.lease6_evidence.proofs.V6ClientLaws.Given.{met}
+use Rattle.audit_words.specs.EvidenceWords.Entries.{Entry}
 use Rattle.machine.specs.Since.{Always}
-use Rattle.evidence_words.specs.Inputs.{Site, StaysOn}
+use Rattle.audit_words.specs.EvidenceWords.Inputs.{Site, StaysOn}
 use Rattle.lease6_evidence.specs.KeptBasis6.{HasLiveItem, IsAskingAgain, KeptAddress6, KeptBasis6}
 use Rattle.kept_judge.specs.Staying.{is_same_net}
 use Rattle.kept_judge.specs.declared.standing.Asked6.{Asked6}

@@ -4,7 +4,7 @@ use Rattle.std.proofs.lemmas.Bool.{eqb-true, eq-eqb}
 use Rattle.std.specs.Prelude.{◌==◌}
 use Rattle.world.specs.declared.wakes.Event.{Event}
 use Rattle.world.specs.declared.wakes.Event.TheVariants.{Frame, Carrier, Duplicate, Release, Rebind, Stop, Quiet, End}
-use Rattle.evidence_words.specs.Inputs.{GoesOn}
+use Rattle.audit_words.specs.EvidenceWords.Inputs.{GoesOn}
 use Rattle.kept_judge.specs.Staying.{stays}
 
 not_taken : (now here up : Bool) → (now || not (here && up)) ≡ true → here ≡ true → up ≡ true → now ≡ true

@@ -6,8 +6,8 @@ use Rattle.net_types.specs.declared.address.Net6.{Net6}
 use Rattle.v6_frames.specs.Spelled.{Sent6}
 use Rattle.lease6_text.specs.LineParts.{is_ia}
 use Rattle.v6_client.specs.declared.setup.IaAsk.{IaAsk}
-use Rattle.evidence_words.specs.Entries.{Entry}
-use Rattle.evidence_words.specs.Inputs.{Site, carrier_after, index_at}
+use Rattle.audit_words.specs.EvidenceWords.Entries.{Entry}
+use Rattle.audit_words.specs.EvidenceWords.Inputs.{Site, carrier_after, index_at}
 use Rattle.lease6_evidence.specs.Exchanges6.{messages6_at}
 use Rattle.kept_judge.specs.Staying.{stays}
 use Rattle.kept_judge.specs.declared.standing.Asked6.{Asked6}

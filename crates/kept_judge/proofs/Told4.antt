@@ -5,9 +5,9 @@ use Rattle.net_types.specs.declared.address.Net.{Net}
 use Rattle.lease_text.specs.Leases.{LeaseContent}
 use Rattle.v4_frames.specs.declared.sent.Sent4.{Sent4}
 use Rattle.v4_client.specs.declared.states.Answer4.{Answer4}
-use Rattle.evidence_words.specs.Entries.{Entry}
-use Rattle.evidence_words.specs.Inputs.{Site, carrier_after, index_at}
-use Rattle.lease_evidence.specs.Exchanges.{messages_at}
+use Rattle.audit_words.specs.EvidenceWords.Entries.{Entry}
+use Rattle.audit_words.specs.EvidenceWords.Inputs.{Site, carrier_after, index_at}
+use Rattle.lease6_evidence.specs.LeaseEvidence.Exchanges.{messages_at}
 use Rattle.kept_judge.specs.declared.standing.Asked4.{Asked4}
 use Rattle.kept_judge.specs.declared.standing.Asked4.TheVariants.{Nothing, Again, Over}
 use Rattle.kept_judge.specs.declared.standing.Kept4.{Kept4}

@@ -16,10 +16,10 @@ use Rattle.v4_client.specs.declared.states.Answer4.TheVariants as answer
 use Rattle.v4_client.specs.Answers.{is_unexpired}
 use Rattle.v4_client.specs.Saying.{no_address}
 use Rattle.world.specs.declared.wakes.Event.{Event}
-use Rattle.evidence_words.specs.Entries.{Entry}
-use Rattle.evidence_words.specs.Inputs.{Site, carrier_after, index_at}
-use Rattle.lease_evidence.specs.Exchanges.{Numbered, messages_at, seen_in}
-use Rattle.lease_evidence.specs.Replies.{reply_at}
+use Rattle.audit_words.specs.EvidenceWords.Entries.{Entry}
+use Rattle.audit_words.specs.EvidenceWords.Inputs.{Site, carrier_after, index_at}
+use Rattle.lease6_evidence.specs.LeaseEvidence.Exchanges.{Numbered, messages_at, seen_in}
+use Rattle.lease6_evidence.specs.LeaseEvidence.Replies.{reply_at}
 use Rattle.kept_judge.specs.Staying.{stays}
 use Rattle.kept_judge.specs.declared.standing.Asked4.{Asked4}
 use Rattle.kept_judge.specs.declared.standing.Asked4.TheVariants.{Nothing, Again, Over}

@@ -19,8 +19,8 @@ use Rattle.v6_client.specs.declared.times.TheConstants.{RESTART_TIME}
 use Rattle.v6_client.specs.Items.{is_live}
 use Rattle.v6_client.specs.Reading.{serves}
 use Rattle.world.specs.declared.wakes.Event.{Event}
-use Rattle.evidence_words.specs.Entries.{Entry}
-use Rattle.evidence_words.specs.Inputs.{Site, carrier_after, index_at}
+use Rattle.audit_words.specs.EvidenceWords.Entries.{Entry}
+use Rattle.audit_words.specs.EvidenceWords.Inputs.{Site, carrier_after, index_at}
 use Rattle.lease6_evidence.specs.Exchanges6.{Numbered6, messages6_at, seen6_in}
 use Rattle.lease6_evidence.specs.Replies6.{answers, asks_at, message6_at}
 use Rattle.kept_judge.specs.Staying.{is_same_net, stays}

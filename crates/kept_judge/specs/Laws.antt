@@ -3,9 +3,9 @@ use Rattle.std.specs.Prelude.{◌≡◌, ◌↔◌, ℕ, true, List}
 use Rattle.net_types.specs.declared.address.Net.{Net}
 use Rattle.net_types.specs.declared.address.Net6.{Net6}
 use Rattle.v6_client.specs.declared.setup.IaAsk.{IaAsk}
-use Rattle.evidence_words.specs.Entries.{Entry}
-use Rattle.evidence_words.specs.Inputs.{Site}
-use Rattle.lease_evidence.specs.KeptBasis4.{KeptBasis4}
+use Rattle.audit_words.specs.EvidenceWords.Entries.{Entry}
+use Rattle.audit_words.specs.EvidenceWords.Inputs.{Site}
+use Rattle.lease6_evidence.specs.LeaseEvidence.KeptBasis4.{KeptBasis4}
 use Rattle.lease6_evidence.specs.KeptBasis6.{KeptAddress6, KeptBasis6}
 use Rattle.kept_judge.specs.Asking4.{is_kept4}
 use Rattle.kept_judge.specs.Asking6.{is_kept6, is_kept_address6}

@@ -1,8 +1,8 @@
 //! A turn of an interface that asks for its kept lease of DHCPv4 (RFC 2131, sections 3.2 and 4.3.2).
 
 ghost use Rattle.std.specs.Prelude.{◌≡◌, true, List, [], ◌∷◌};
-ghost use Rattle.evidence_words.specs.Entries as told;
-ghost use Rattle.lease_evidence.specs.Exchanges.{messages_at};
+ghost use Rattle.audit_words.specs.EvidenceWords.Entries as told;
+ghost use Rattle.lease6_evidence.specs.LeaseEvidence.Exchanges.{messages_at};
 ghost use Rattle.net_types.specs.Moments.{IsMoment};
 ghost use Rattle.lease_text.specs.Leases.{lease_content};
 ghost use Rattle.audit_words.specs.Shown.{FitsSite, entry_shown, site_shown};

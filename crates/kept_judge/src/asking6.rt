@@ -2,7 +2,7 @@
 
 ghost use Rattle.std.specs.Prelude.{◌≡◌, ◌+◌, true, nat_lt, List, [], ◌∷◌, map, option_map};
 ghost use Rattle.v6_client.specs.declared.times.TheConstants as own;
-ghost use Rattle.evidence_words.specs.Entries as told;
+ghost use Rattle.audit_words.specs.EvidenceWords.Entries as told;
 ghost use Rattle.lease6_evidence.specs.Exchanges6.{messages6_at};
 ghost use Rattle.audit_words.specs.Shown.{entry_shown, site_shown};
 ghost use Rattle.kept_judge.specs.Asking6.{Tells6, has_reply, if_stays6, is_asking6, is_over6, is_rebind, said6_one, spoken_all, spoken_maybe, spoken_of, turned6, unless_replied};

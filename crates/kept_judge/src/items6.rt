@@ -2,7 +2,7 @@
 
 ghost use Rattle.std.specs.Prelude.{◌≡◌, List, option_map};
 ghost use Rattle.std.specs.List.{list_any};
-ghost use Rattle.evidence_words.specs.Entries as told;
+ghost use Rattle.audit_words.specs.EvidenceWords.Entries as told;
 ghost use Rattle.lease6_text.specs.Leases.{ias_content, lease6_content};
 ghost use Rattle.lease6_text.specs.LineParts.{is_ia, is_same_kind};
 ghost use Rattle.kept_judge.specs.Staying.{is_same_net};

@@ -1,7 +1,7 @@
 //! What the input of a turn means to the carrier of an interface, and to what it holds.
 
 ghost use Rattle.std.specs.Prelude.{◌≡◌};
-ghost use Rattle.evidence_words.specs.Inputs.{carrier_after};
+ghost use Rattle.audit_words.specs.EvidenceWords.Inputs.{carrier_after};
 ghost use Rattle.kept_judge.specs.Staying.{stays};
 
 use world::Event;

@@ -20,3 +20,4 @@ pub mod SaidRead
 pub mod SaidExchanges
 pub mod SaidMessages
 pub mod LastLines
+pub use Rattle.lease_evidence.proofs as LeaseEvidence

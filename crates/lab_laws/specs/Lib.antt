@@ -6,3 +6,4 @@ pub mod LabClients
 pub mod Reading
 pub mod HeldInLabs
 pub mod HeardReplies
+pub use Rattle.lab_model.specs as LabModel

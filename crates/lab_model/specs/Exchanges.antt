@@ -6,7 +6,7 @@ use Rattle.v4_message.specs.declared.writing.Kind4.TheVariants as kinds
 use Rattle.v4_message.specs.declared.writing.Said4.{Said4}
 use Rattle.v4_frames.specs.declared.sent.Sent4.{Sent4}
 use Rattle.client_model.specs.Clients.{Sending}
-use Rattle.lab_peer.specs.ClientFrames.{client_sent}
+use Rattle.lab_schedule.specs.LabPeer.ClientFrames.{client_sent}
 use Rattle.lab_model.specs.declared.exchange.Exchange.{Exchange}
 
 -- a DHCPv4 message, and the interface that sent it

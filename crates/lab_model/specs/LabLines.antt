@@ -6,7 +6,7 @@ use Rattle.net_types.specs.AddressText.{net4_text}
 use Rattle.net_types.specs.HexText.{hex_text}
 use Rattle.net_types.specs.TextLines as texts
 use Rattle.lease_text.specs.Leases.{LeaseContent}
-use Rattle.v4_client.specs.Clients.{held_of}
+use Rattle.client_model.specs.V4Client.Clients.{held_of}
 use Rattle.settings.specs.declared.interfaces.Managed.{Managed}
 use Rattle.client_model.specs.declared.interfaces.Iface.{Iface}
 use Rattle.client_model.specs.Clients.{Sending}

@@ -13,8 +13,8 @@ use Rattle.client_model.specs.Clients.{Client, ClientStep, Sending, client_turne
 use Rattle.client_model.specs.HostDuid.{host_duid}
 use Rattle.client_model.specs.IfaceTurns.{Turn}
 use Rattle.client_model.specs.KeptLeases.{Beginning}
-use Rattle.lab_peer.specs.declared.pool.Pool.{Pool}
-use Rattle.lab_peer.specs.Hearing.{PeerState, Response, hears, made, peer_open}
+use Rattle.lab_schedule.specs.LabPeer.declared.pool.Pool.{Pool}
+use Rattle.lab_schedule.specs.LabPeer.Hearing.{PeerState, Response, hears, made, peer_open}
 use Rattle.lab_schedule.specs.declared.event.LabEvent.{LabEvent}
 use Rattle.lab_schedule.specs.declared.event.LabEvent.TheVariants.{Tick, Carrier, Release, Give, Hear}
 use Rattle.lab_schedule.specs.Schedules.{Schedule}

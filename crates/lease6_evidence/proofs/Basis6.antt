@@ -24,8 +24,8 @@ use Rattle.v6_client.specs.declared.times.TheConstants.{FOREVER, SECOND}
 use Rattle.v6_client.specs.Items.{goes_of, ia_with, is_in, is_live, items_at, stays_in, staying, thinned, without}
 use Rattle.v6_client.specs.Times.{moment_after}
 use Rattle.v6_client.proofs.TakenFits.{kind_is}
-use Rattle.evidence_words.specs.Entries.{Entry}
-use Rattle.evidence_words.specs.Inputs.{Site}
+use Rattle.lease_evidence.specs.EvidenceWords.Entries.{Entry}
+use Rattle.lease_evidence.specs.EvidenceWords.Inputs.{Site}
 use Rattle.lease6_evidence.specs.Exchanges6.{Numbered6}
 use Rattle.lease6_evidence.specs.ItemBasis.{Gives, IsValid, ItemBasis, Leaves, Mentions, Revises}
 use Rattle.lease6_evidence.specs.Replies6.{FirstReply, asks_at}

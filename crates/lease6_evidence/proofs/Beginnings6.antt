@@ -3,7 +3,7 @@ use Rattle.std.proofs.Common.{◌≡◌, ℕ, inl, inr, Bool, true, false, ◌&&
 use Rattle.std.proofs.lemmas.Bool.{and_parts, both_ways}
 use Rattle.std.specs.Prelude.{if◌then◌else◌}
 use Rattle.net_types.proofs.CaseLaws.{gated}
-use Rattle.lease_text.specs.declared.lease.Origin.{Origin}
+use Rattle.lease6_text.specs.LeaseText.declared.lease.Origin.{Origin}
 use Rattle.lease6_text.specs.Leases.{Lease6Content}
 use Rattle.v6_client.specs.declared.states.Carrier6.TheVariants.{Up}
 use Rattle.v6_client.specs.declared.states.Step6.{Step6}
@@ -13,9 +13,9 @@ use Rattle.v6_client.specs.Inputs.{begins}
 use Rattle.v6_client.specs.Runs.{Turned6, carrier_turned, stepped}
 use Rattle.v6_client.specs.Steps.{restarts, to_waiting}
 use Rattle.script_model.specs.IfaceSets.{is_up}
-use Rattle.client_model.specs.ClientSettings6.{runs_dhcp6, settings6_of}
-use Rattle.client_model.specs.Interfaces.{carrier_at_opening, resting}
-use Rattle.client_model.specs.KeptLeases.{Beginning}
+use Rattle.lease_evidence.specs.ClientModel.ClientSettings6.{runs_dhcp6, settings6_of}
+use Rattle.lease_evidence.specs.ClientModel.Interfaces.{carrier_at_opening, resting}
+use Rattle.lease_evidence.specs.ClientModel.KeptLeases.{Beginning}
 use Rattle.lease6_evidence.specs.HeldItems.{BeginsWithoutItems}
 use Rattle.lease6_evidence.proofs.ExchangeStates.{pruned_kept}
 use Rattle.lease6_evidence.proofs.Turns6.{begins_run}

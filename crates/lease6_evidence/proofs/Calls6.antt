@@ -35,9 +35,9 @@ use Rattle.v6_client.specs.Saying.{lease_server, plea_server}
 use Rattle.v6_client.specs.Settings.{SettingsContent}
 use Rattle.v6_client.specs.Steps.{keep_by}
 use Rattle.v6_client.specs.Ticks.{tick_row}
-use Rattle.client_model.specs.ClientSettings6.{settings6_of, site6_of}
-use Rattle.evidence_words.specs.Entries.{Entry}
-use Rattle.evidence_words.specs.Inputs.{Site}
+use Rattle.lease_evidence.specs.ClientModel.ClientSettings6.{settings6_of, site6_of}
+use Rattle.lease_evidence.specs.EvidenceWords.Entries.{Entry}
+use Rattle.lease_evidence.specs.EvidenceWords.Inputs.{Site}
 use Rattle.lease6_evidence.specs.Exchanges6.{Numbered6, Seen6, seen6_in, shows6}
 use Rattle.lease6_evidence.specs.Replies6.{message6_at}
 use Rattle.lease6_evidence.proofs.ExchangeStates.{Counted6, Follows6, LastXid6, On6, Watched6, client_with, pruned_kept}

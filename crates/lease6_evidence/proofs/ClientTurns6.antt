@@ -14,9 +14,9 @@ use Rattle.v6_client.specs.Saying.{lease_server, plea_server}
 use Rattle.v6_client.specs.Sound.{IsSound}
 use Rattle.v6_client.proofs.StayingRuns.{settings_stay, sound_stays}
 use Rattle.v6_client.proofs.TimedReplies.{grants_fit}
-use Rattle.client_model.specs.ClientSettings6.{settings6_of}
-use Rattle.evidence_words.specs.Entries.{Entry}
-use Rattle.evidence_words.specs.Inputs.{Site}
+use Rattle.lease_evidence.specs.ClientModel.ClientSettings6.{settings6_of}
+use Rattle.lease_evidence.specs.EvidenceWords.Entries.{Entry}
+use Rattle.lease_evidence.specs.EvidenceWords.Inputs.{Site}
 use Rattle.lease6_evidence.specs.Exchanges6.{Seen6, seen6_in, shows6}
 use Rattle.lease6_evidence.specs.Replies6.{asks_at, message6_at}
 use Rattle.lease6_evidence.proofs.ExchangeStates.{Watched6, stood}

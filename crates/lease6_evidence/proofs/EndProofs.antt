@@ -18,9 +18,9 @@ use Rattle.v6_client.specs.Reading.{are_ordered, front_items, is_unbound, no_bin
 use Rattle.v6_client_laws.proofs.Given.{bindings_are_known, items_are_given}
 use Rattle.world.specs.declared.wakes.Event.{Event}
 use Rattle.world.specs.declared.wakes.Event.TheVariants.{Frame, Carrier, Duplicate, Release, Rebind, Stop, Quiet, End}
-use Rattle.evidence_words.specs.Entries.{Entry}
-use Rattle.evidence_words.specs.Inputs.{GoesOn, Site, carrier_after, has_carrier, index_at}
-use Rattle.evidence_words.specs.Probed.{EachAfter}
+use Rattle.lease_evidence.specs.EvidenceWords.Entries.{Entry}
+use Rattle.lease_evidence.specs.EvidenceWords.Inputs.{GoesOn, Site, carrier_after, has_carrier, index_at}
+use Rattle.lease_evidence.specs.EvidenceWords.Probed.{EachAfter}
 use Rattle.lease6_evidence.specs.Ends6.{Answers6, EndsBy, IsReleased, IsStopped, IsUnknown, IsUsedTwice, IsWithdrawn, LosesCarrier, NamesNot, WasAnswered, said_for}
 use Rattle.lease6_evidence.specs.ItemBasis.{Gives, ItemBasis, Leaves, NotContested}
 use Rattle.lease6_evidence.specs.Replies6.{FirstReply, NoReply, message6_at, message6_on}

@@ -14,9 +14,9 @@ use Rattle.v6_client.specs.Items.{pruned_ias}
 use Rattle.v6_client.specs.Moves.{lease_with}
 use Rattle.v6_client.specs.declared.setup.IaAsk.{IaAsk}
 use Rattle.v6_client.specs.Saying.{lease_server, plea_server}
-use Rattle.client_model.specs.ClientSettings6.{settings6_of}
-use Rattle.evidence_words.specs.Entries.{Entry}
-use Rattle.evidence_words.specs.Inputs.{Site}
+use Rattle.lease_evidence.specs.ClientModel.ClientSettings6.{settings6_of}
+use Rattle.lease_evidence.specs.EvidenceWords.Entries.{Entry}
+use Rattle.lease_evidence.specs.EvidenceWords.Inputs.{Site}
 use Rattle.lease6_evidence.specs.Exchanges6.{Numbered6, Seen6}
 use Rattle.lease6_evidence.specs.Replies6.{NoReply, FirstReply, is_from}
 

@@ -38,7 +38,7 @@ use Rattle.v6_client.specs.Saying.{spoken_by}
 use Rattle.v6_client.specs.Steps.{emptied, expires, is_last, requests, rests, tells_parting, to_waiting}
 use Rattle.v6_client.specs.Ticks.{restarting_tick, tick_row}
 use Rattle.v6_client.specs.Times.{elapsed}
-use Rattle.evidence_words.specs.Inputs.{Site}
+use Rattle.lease_evidence.specs.EvidenceWords.Inputs.{Site}
 use Rattle.lease6_evidence.specs.Replies6.{asks_at}
 use Rattle.lease6_evidence.proofs.Fields6.{FitsAsk6, FitsKept, FitsPlea, said_asked, server_short}
 use Rattle.lease6_evidence.proofs.OwnSaid6.{AsksWith, IsAsked, said_own}

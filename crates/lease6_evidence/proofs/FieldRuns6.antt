@@ -46,8 +46,8 @@ use Rattle.v6_client.specs.Runs.{Turned6, answered, carrier_turned, contested_tu
 use Rattle.v6_client.specs.Taking.{carried, ia_granted, ias_granted, is_carried, item_from, taken_by}
 use Rattle.v6_client.specs.Ticks.{tick_row}
 use Rattle.v6_client.proofs.TakenFits.{had_fit}
-use Rattle.client_model.specs.ClientSettings6.{site6_of}
-use Rattle.evidence_words.specs.Inputs.{Site}
+use Rattle.lease_evidence.specs.ClientModel.ClientSettings6.{site6_of}
+use Rattle.lease_evidence.specs.EvidenceWords.Inputs.{Site}
 use Rattle.lease6_evidence.specs.Replies6.{asks_at}
 use Rattle.lease6_evidence.proofs.Basis6.{filter_all, with_some, without_all}
 use Rattle.lease6_evidence.proofs.ExchangeStates.{client_with, pruned_kept}

@@ -37,7 +37,7 @@ use Rattle.v6_client.specs.Taking.{item_from}
 use Rattle.v6_client.proofs.FitsLists.{fewer}
 use Rattle.v6_client.proofs.SaidFits.{saids_fit}
 use Rattle.v6_client.proofs.TakenFits.{kind_is}
-use Rattle.client_model.specs.ClientSettings6.{ask_for}
+use Rattle.lease_evidence.specs.ClientModel.ClientSettings6.{ask_for}
 use Rattle.lease6_evidence.proofs.Basis6.{filter_all}
 use Rattle.lease6_evidence.proofs.Bytes6.{IsTyped, options_typed, take_all}
 

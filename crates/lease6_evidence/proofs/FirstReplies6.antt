@@ -12,8 +12,8 @@ use Rattle.v6_client.specs.Clients.{ClientContent, PleaContent, holds}
 use Rattle.v6_client.specs.Reading.{serves}
 use Rattle.v6_client.specs.Saying.{lease_server, plea_server}
 use Rattle.v6_client_laws.proofs.Given.{messages_serve}
-use Rattle.evidence_words.specs.Entries.{Entry}
-use Rattle.evidence_words.specs.Inputs.{Site}
+use Rattle.lease_evidence.specs.EvidenceWords.Entries.{Entry}
+use Rattle.lease_evidence.specs.EvidenceWords.Inputs.{Site}
 use Rattle.lease6_evidence.specs.Exchanges6.{Numbered6, Seen6, seen6_in}
 use Rattle.lease6_evidence.specs.Replies6.{FirstReply, NoReply, asks_at, message6_at}
 use Rattle.lease6_evidence.proofs.ExchangeStates.{Asking6, IsFirst, On6, Solicits6, Takes6, client_with}

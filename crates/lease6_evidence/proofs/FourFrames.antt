@@ -2,11 +2,11 @@
 use Rattle.std.proofs.Common.{List}
 use Rattle.net_types.proofs.AllLaws.{all_map}
 use Rattle.net_types.specs.declared.address.Mac.{Mac}
-use Rattle.client_model.specs.Fitting.{FitsBeginning}
-use Rattle.client_model.specs.IfaceTurns.{iface_turned}
-use Rattle.client_model.specs.KeptLeases.{Beginning}
-use Rattle.client_model.specs.Messages.{Said, Arp, Dhcp4, Dhcp6}
-use Rattle.evidence_words.specs.IfaceLives.{Opening, iface_after, opens}
+use Rattle.lease_evidence.specs.ClientModel.Fitting.{FitsBeginning}
+use Rattle.lease_evidence.specs.ClientModel.IfaceTurns.{iface_turned}
+use Rattle.lease_evidence.specs.ClientModel.KeptLeases.{Beginning}
+use Rattle.lease_evidence.specs.ClientModel.Messages.{Said, Arp, Dhcp4, Dhcp6}
+use Rattle.lease_evidence.specs.EvidenceWords.IfaceLives.{Opening, iface_after, opens}
 use Rattle.lease_evidence.specs.HeldLeases.{KeepsTyped}
 use Rattle.lease_evidence.proofs.HeldRuns.{opening_said_fits, turn_said_fits}
 use Rattle.lease_evidence.proofs.Spoken.{FitsSaid}

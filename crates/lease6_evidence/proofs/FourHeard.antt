@@ -31,16 +31,16 @@ use Rattle.v6_client.specs.Runs.{carrier_turned, hears_turned, tick_turned}
 use Rattle.world.specs.declared.wakes.Event.TheVariants.{Frame, Quiet}
 use Rattle.settings.specs.Dhcp6Settings.{conf_key}
 use Rattle.settings.specs.Fitting.{FitsManaged}
-use Rattle.client_model.specs.declared.interfaces.Iface.{Iface}
-use Rattle.client_model.specs.ClientSettings.{ask_of}
-use Rattle.client_model.specs.Clients.{frame_of}
-use Rattle.client_model.specs.Fitting.{FitsBeginning}
-use Rattle.client_model.specs.IfaceSteps.{IfaceStep, then_step}
-use Rattle.client_model.specs.IfaceTurns.{arp_of_frame, arp_heard, hears_either, iface_turned}
-use Rattle.client_model.specs.Interfaces.{ticked}
-use Rattle.evidence_words.specs.Entries.{Offer}
-use Rattle.evidence_words.specs.IfaceLives.{IsLived, Met, iface_after, shown, site_of}
-use Rattle.evidence_words.specs.Inputs.{Site}
+use Rattle.lease_evidence.specs.ClientModel.declared.interfaces.Iface.{Iface}
+use Rattle.lease_evidence.specs.ClientModel.ClientSettings.{ask_of}
+use Rattle.lease_evidence.specs.ClientModel.Clients.{frame_of}
+use Rattle.lease_evidence.specs.ClientModel.Fitting.{FitsBeginning}
+use Rattle.lease_evidence.specs.ClientModel.IfaceSteps.{IfaceStep, then_step}
+use Rattle.lease_evidence.specs.ClientModel.IfaceTurns.{arp_of_frame, arp_heard, hears_either, iface_turned}
+use Rattle.lease_evidence.specs.ClientModel.Interfaces.{ticked}
+use Rattle.lease_evidence.specs.EvidenceWords.Entries.{Offer}
+use Rattle.lease_evidence.specs.EvidenceWords.IfaceLives.{IsLived, Met, iface_after, shown, site_of}
+use Rattle.lease_evidence.specs.EvidenceWords.Inputs.{Site}
 use Rattle.lease_evidence.specs.PlainIface.{client_mac}
 use Rattle.lease6_evidence.specs.FourMessages.{address, addresses, advertise, beginning, client_option, duid, from_client, from_server, granted, ias_given, interface, lease, met, offers, opening, prefix, prefixes, reply, request, server_option, solicit, three_turns}
 use Rattle.lease6_evidence.specs.HeldItems.{HasItemBasis}

@@ -27,8 +27,8 @@ use Rattle.v6_client.specs.Taking.{Meeting, carried, ia_granted, ias_granted, is
 use Rattle.v6_client.specs.Times.{moment_after}
 use Rattle.v6_client.proofs.TakenFits.{had_fit, kind_is}
 use Rattle.v6_client_laws.proofs.Given.{bindings_are_known, items_are_given}
-use Rattle.evidence_words.specs.Entries.{Entry}
-use Rattle.evidence_words.specs.Inputs.{Site}
+use Rattle.lease_evidence.specs.EvidenceWords.Entries.{Entry}
+use Rattle.lease_evidence.specs.EvidenceWords.Inputs.{Site}
 use Rattle.lease6_evidence.specs.Ends6.{said_for}
 use Rattle.lease6_evidence.specs.ItemBasis.{Leaves, Revises}
 use Rattle.lease6_evidence.specs.Replies6.{asks_at, message6_at}

@@ -25,9 +25,9 @@ use Rattle.v6_client.specs.Reading.{serves}
 use Rattle.v6_client.specs.Runs.{Turned6, answered, hears_turned, rested, stepped}
 use Rattle.v6_client.specs.Saying.{lease_server, plea_server}
 use Rattle.v6_client.specs.Taking.{ias_granted}
-use Rattle.client_model.specs.ClientSettings6.{site6_of}
-use Rattle.evidence_words.specs.Entries.{Entry}
-use Rattle.evidence_words.specs.Inputs.{Site}
+use Rattle.lease_evidence.specs.ClientModel.ClientSettings6.{site6_of}
+use Rattle.lease_evidence.specs.EvidenceWords.Entries.{Entry}
+use Rattle.lease_evidence.specs.EvidenceWords.Inputs.{Site}
 use Rattle.lease6_evidence.specs.Exchanges6.{Seen6, seen6_in, shows6}
 use Rattle.lease6_evidence.specs.Replies6.{asks_at, message6_at}
 use Rattle.lease6_evidence.proofs.Basis6.{HeldIas}

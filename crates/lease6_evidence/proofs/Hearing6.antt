@@ -25,9 +25,9 @@ use Rattle.v6_client.specs.Runs.{Turned6, answered, hears_turned, rested, steppe
 use Rattle.v6_client.specs.Saying.{lease_server, plea_server}
 use Rattle.v6_client.specs.Steps.{rests}
 use Rattle.v6_client_laws.proofs.Given.{messages_serve}
-use Rattle.client_model.specs.ClientSettings6.{site6_of}
-use Rattle.evidence_words.specs.Entries.{Entry}
-use Rattle.evidence_words.specs.Inputs.{Site}
+use Rattle.lease_evidence.specs.ClientModel.ClientSettings6.{site6_of}
+use Rattle.lease_evidence.specs.EvidenceWords.Entries.{Entry}
+use Rattle.lease_evidence.specs.EvidenceWords.Inputs.{Site}
 use Rattle.lease6_evidence.specs.Exchanges6.{Numbered6, Seen6, seen6_in, shows6}
 use Rattle.lease6_evidence.specs.Replies6.{GoodReply, NoReply, answers, asks_at, is_from, is_reply, message6_at}
 use Rattle.lease6_evidence.proofs.ExchangeStates.{Answered6, Asking6, Asks6, Counted6, Follows6, LastXid6, On6, Solicits6, Takes6, client_with}

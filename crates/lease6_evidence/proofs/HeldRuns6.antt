@@ -27,16 +27,16 @@ use Rattle.v6_client.specs.Items.{ias_of}
 use Rattle.world.specs.declared.wakes.Event.TheVariants.{Quiet}
 use Rattle.script_model.specs.IfaceSets.{is_up}
 use Rattle.net_types.specs.declared.address.Ip6.{Ip6}
-use Rattle.client_model.specs.declared.interfaces.Iface.{Iface}
-use Rattle.client_model.specs.ClientSettings6.{ask_for, runs_dhcp6, settings6_of}
-use Rattle.client_model.specs.Fitting.{FitsBeginning}
-use Rattle.client_model.specs.IfaceSteps.{IfaceStep, silent}
-use Rattle.client_model.specs.IfaceTurns.{iface_turned}
-use Rattle.client_model.specs.Interfaces.{begins, carrier_at_opening, resting}
-use Rattle.client_model.specs.KeptLeases.{Beginning}
-use Rattle.evidence_words.specs.Entries.{Entry}
-use Rattle.evidence_words.specs.IfaceLives.{IsLived, IsSaid, Met, Opening, entry_of, iface_after, now_in, opening_entry, opens, shown, site_of}
-use Rattle.evidence_words.specs.Inputs.{Site, index_at}
+use Rattle.lease_evidence.specs.ClientModel.declared.interfaces.Iface.{Iface}
+use Rattle.lease_evidence.specs.ClientModel.ClientSettings6.{ask_for, runs_dhcp6, settings6_of}
+use Rattle.lease_evidence.specs.ClientModel.Fitting.{FitsBeginning}
+use Rattle.lease_evidence.specs.ClientModel.IfaceSteps.{IfaceStep, silent}
+use Rattle.lease_evidence.specs.ClientModel.IfaceTurns.{iface_turned}
+use Rattle.lease_evidence.specs.ClientModel.Interfaces.{begins, carrier_at_opening, resting}
+use Rattle.lease_evidence.specs.ClientModel.KeptLeases.{Beginning}
+use Rattle.lease_evidence.specs.EvidenceWords.Entries.{Entry}
+use Rattle.lease_evidence.specs.EvidenceWords.IfaceLives.{IsLived, IsSaid, Met, Opening, entry_of, iface_after, now_in, opening_entry, opens, shown, site_of}
+use Rattle.lease_evidence.specs.EvidenceWords.Inputs.{Site, index_at}
 use Rattle.lease_evidence.specs.HeldLeases.{KeepsTyped}
 use Rattle.lease6_evidence.specs.HeldItems.{BeginsWithKeptItems, HeldItemsHaveBasis, ItemHasBasis, ItemRests}
 use Rattle.lease6_evidence.specs.ItemBasis.{NotContested}

@@ -47,9 +47,9 @@ use Rattle.v6_client.specs.Ticks.{restarting_tick, tick_row}
 use Rattle.v6_client.proofs.Lapsing.{start_row}
 use Rattle.v6_client.proofs.Lapsing as lapsing
 use Rattle.v6_client.proofs.TakenFits.{kind_is}
-use Rattle.client_model.specs.ClientSettings6.{settings6_of}
-use Rattle.evidence_words.specs.Entries.{Entry}
-use Rattle.evidence_words.specs.Inputs.{Site, index_at}
+use Rattle.lease_evidence.specs.ClientModel.ClientSettings6.{settings6_of}
+use Rattle.lease_evidence.specs.EvidenceWords.Entries.{Entry}
+use Rattle.lease_evidence.specs.EvidenceWords.Inputs.{Site, index_at}
 use Rattle.lease6_evidence.specs.Exchanges6.{Numbered6}
 use Rattle.lease6_evidence.specs.ItemBasis.{Leaves, NotContested}
 use Rattle.lease6_evidence.specs.Replies6.{FirstReply, asks_at}

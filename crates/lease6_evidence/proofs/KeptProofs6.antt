@@ -5,12 +5,12 @@ use Rattle.std.specs.List.{AllByRecursion, Contains, list_any}
 use Rattle.machine.specs.Moment.{is_due}
 use Rattle.machine.specs.Since.{Since, Always}
 use Rattle.v6_frames.specs.Spelled.{Sent6}
-use Rattle.lease_text.specs.declared.lease.Origin.{Origin}
+use Rattle.lease6_text.specs.LeaseText.declared.lease.Origin.{Origin}
 use Rattle.lease6_text.specs.Leases.{Lease6Content}
 use Rattle.v6_client.specs.declared.times.TheConstants.{RESTART_TIME}
 use Rattle.world.specs.declared.wakes.Event.{Event}
-use Rattle.evidence_words.specs.Entries.{Entry}
-use Rattle.evidence_words.specs.Inputs.{GoesOn, Site, StaysOn, has_carrier, index_at}
+use Rattle.lease_evidence.specs.EvidenceWords.Entries.{Entry}
+use Rattle.lease_evidence.specs.EvidenceWords.Inputs.{GoesOn, Site, StaysOn, has_carrier, index_at}
 use Rattle.lease6_evidence.specs.Ends6.{IsReleased, IsStopped, LosesCarrier}
 use Rattle.lease6_evidence.specs.Exchanges6.{messages6_at}
 use Rattle.lease6_evidence.specs.HeldItems.{PlainItemsAreGiven}

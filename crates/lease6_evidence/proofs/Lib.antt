@@ -30,3 +30,5 @@ pub mod Beginnings6
 pub mod HeldRuns6
 pub mod FourFrames
 pub mod FourHeard
+pub use Rattle.lease_evidence.proofs as LeaseEvidence
+pub use Rattle.v6_client_laws.proofs as V6ClientLaws

@@ -23,14 +23,14 @@ use Rattle.world.specs.declared.wakes.Event.{Event}
 use Rattle.world.specs.declared.wakes.Event.TheVariants.{Frame, Carrier, Duplicate, Release, Rebind, Stop, Quiet, End}
 use Rattle.settings.specs.declared.interfaces.Managed.{Managed}
 use Rattle.script_model.specs.IfaceSets.{is_in}
-use Rattle.client_model.specs.declared.interfaces.Iface.{Iface}
-use Rattle.client_model.specs.ClientSettings6.{settings6_of}
-use Rattle.client_model.specs.IfaceSteps.{IfaceStep, index_of, then_step}
-use Rattle.client_model.specs.IfaceTurns.{iface_turned, input_step}
-use Rattle.client_model.specs.Interfaces.{ticked, unsent_in}
-use Rattle.evidence_words.specs.Entries.{Entry}
-use Rattle.evidence_words.specs.IfaceLives.{IsSaid}
-use Rattle.evidence_words.specs.Inputs.{Site, carrier_after, has_carrier, index_at, is_stop, is_stopped}
+use Rattle.lease_evidence.specs.ClientModel.declared.interfaces.Iface.{Iface}
+use Rattle.lease_evidence.specs.ClientModel.ClientSettings6.{settings6_of}
+use Rattle.lease_evidence.specs.ClientModel.IfaceSteps.{IfaceStep, index_of, then_step}
+use Rattle.lease_evidence.specs.ClientModel.IfaceTurns.{iface_turned, input_step}
+use Rattle.lease_evidence.specs.ClientModel.Interfaces.{ticked, unsent_in}
+use Rattle.lease_evidence.specs.EvidenceWords.Entries.{Entry}
+use Rattle.lease_evidence.specs.EvidenceWords.IfaceLives.{IsSaid}
+use Rattle.lease_evidence.specs.EvidenceWords.Inputs.{Site, carrier_after, has_carrier, index_at, is_stop, is_stopped}
 use Rattle.lease6_evidence.specs.Exchanges6.{Seen6, seen6_in, shows6}
 use Rattle.lease6_evidence.specs.Replies6.{message6_on}
 use Rattle.lease6_evidence.proofs.Bytes6.{HasBytes, heard_typed}

@@ -14,7 +14,7 @@ use Rattle.settings.specs.declared.interfaces.Managed.{Managed}
 use Rattle.v6_client.specs.declared.setup.IaAsk.{IaAsk}
 use Rattle.v6_client.specs.Asking.{hinted, ia_solicited}
 use Rattle.v6_client.proofs.TakenFits.{kind_is}
-use Rattle.evidence_words.specs.Inputs.{Site}
+use Rattle.lease_evidence.specs.EvidenceWords.Inputs.{Site}
 use Rattle.lease6_evidence.specs.Exchanges6.{if_own, is_own}
 use Rattle.lease6_evidence.specs.OwnFrames6.{IsOwnFrame6, NamesAll, OwnFrames6Alone, ias_named, ias_wanted}
 use Rattle.lease6_evidence.specs.OwnMessages6.{are_all, has_own_ias, is_ia_of, is_looked_for, is_own_said, is_rapid, may_name, same_flag, same_net, same_nets}

@@ -22,7 +22,7 @@ use Rattle.v6_client.specs.Clients.{PleaContent}
 use Rattle.v6_client.specs.Items.{asked_at, ias_of, is_nonempty, items_at}
 use Rattle.v6_client.specs.Moves.{plea_by, plea_lapsed}
 use Rattle.v6_client.specs.Saying.{ias_said, plea_ias, rapid_said, server_said}
-use Rattle.client_model.specs.ClientSettings6.{ask_for}
+use Rattle.lease_evidence.specs.ClientModel.ClientSettings6.{ask_for}
 use Rattle.lease6_evidence.specs.OwnMessages6.{are_all, are_some, has_own_ias, is_ia_of, is_looked_for, is_own_said, is_rapid, may_name, same_flag, same_nets}
 
 both : (a b : Bool) → (a && b) ≡ true → (a ≡ true) × (b ≡ true)

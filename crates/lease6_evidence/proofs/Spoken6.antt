@@ -10,23 +10,23 @@ use Rattle.frame_link.proofs.Cells.{six, six_cells}
 use Rattle.frame_link.specs.Packets.{request_text}
 use Rattle.arp_acd.specs.declared.detection.ArpSay.TheVariants.{Probe, Announce}
 use Rattle.udp_frame.specs.Udp4Frames.{udp4_frame_text}
-use Rattle.v4_message.specs.Requests.{AskContent, message_text, padded}
+use Rattle.lease_evidence.specs.V4Message.Requests.{AskContent, message_text, padded}
 use Rattle.v4_frames.specs.declared.sent.TheConstants as ports
 use Rattle.v4_frames.specs.InRange.{FitsMac}
-use Rattle.v4_client.specs.declared.states.Say4.{Say4}
-use Rattle.v4_client.specs.Saying.{sent_of}
+use Rattle.lease_evidence.specs.V4Client.declared.states.Say4.{Say4}
+use Rattle.lease_evidence.specs.V4Client.Saying.{sent_of}
 use Rattle.v6_client.specs.Items.{is_nonempty}
 use Rattle.v6_frames.specs.InRange.{FitsSent6}
 use Rattle.v6_frames.specs.Spelled.{Sent6, sent6_in}
 use Rattle.v6_frames.proofs.FramesBack.{reads_back}
 use Rattle.v6_frames.proofs.OtherKinds.{others_spell_nothing}
-use Rattle.client_model.specs.ClientSettings.{ask_of}
-use Rattle.client_model.specs.Clients.{frame_of}
-use Rattle.client_model.specs.IfaceSteps.{IfaceStep}
-use Rattle.client_model.specs.Messages.{Said, Arp, Dhcp4, Dhcp6}
-use Rattle.evidence_words.specs.Entries.{Entry, Offer}
-use Rattle.evidence_words.specs.IfaceLives.{IsSaid}
-use Rattle.evidence_words.specs.Inputs.{Site, offers_at}
+use Rattle.lease_evidence.specs.ClientModel.ClientSettings.{ask_of}
+use Rattle.lease_evidence.specs.ClientModel.Clients.{frame_of}
+use Rattle.lease_evidence.specs.ClientModel.IfaceSteps.{IfaceStep}
+use Rattle.lease_evidence.specs.ClientModel.Messages.{Said, Arp, Dhcp4, Dhcp6}
+use Rattle.lease_evidence.specs.EvidenceWords.Entries.{Entry, Offer}
+use Rattle.lease_evidence.specs.EvidenceWords.IfaceLives.{IsSaid}
+use Rattle.lease_evidence.specs.EvidenceWords.Inputs.{Site, offers_at}
 use Rattle.lease6_evidence.specs.Exchanges6.{Seen6, if_own, is_own, message6_of, messages6_at, seen6_in, show6, shows6}
 use Rattle.lease6_evidence.specs.KeptBasis6.{IsRebind, speaks6}
 use Rattle.lease6_evidence.proofs.Steps6.{sixes}

@@ -15,8 +15,8 @@ use Rattle.v6_client.specs.Calls.{has_origin}
 use Rattle.v6_client.specs.Clients.{ClientContent}
 use Rattle.world.specs.declared.wakes.Event.{Event}
 use Rattle.world.specs.declared.wakes.Event.TheVariants.{Frame, Carrier, Duplicate, Release, Rebind, Stop, Quiet, End}
-use Rattle.evidence_words.specs.Entries.{Entry}
-use Rattle.evidence_words.specs.Inputs.{Site, GoesOn, StaysOn, carrier_after, has_carrier, index_at, is_stop, is_stopped}
+use Rattle.lease_evidence.specs.EvidenceWords.Entries.{Entry}
+use Rattle.lease_evidence.specs.EvidenceWords.Inputs.{Site, GoesOn, StaysOn, carrier_after, has_carrier, index_at, is_stop, is_stopped}
 use Rattle.lease6_evidence.specs.Exchanges6.{Seen6, messages6_at, seen6_in, show6}
 use Rattle.lease6_evidence.specs.KeptBasis6.{HearsNoReply, IsRebind, RebindsAlone, SaysNone6, speaks6}
 use Rattle.lease6_evidence.specs.Replies6.{FirstReply, NoReply, message6_at}

@@ -42,9 +42,9 @@ use Rattle.v6_client.specs.Steps.{emptied, expires, is_last, restarting, restart
 use Rattle.v6_client.specs.Sound.{IsSound}
 use Rattle.v6_client.specs.Ticks.{restarting_tick, tick_row}
 use Rattle.v6_client.specs.Times.{earlier}
-use Rattle.client_model.specs.ClientSettings6.{settings6_of}
-use Rattle.evidence_words.specs.Entries.{Entry}
-use Rattle.evidence_words.specs.Inputs.{Site, StaysOn, has_carrier, is_stopped}
+use Rattle.lease_evidence.specs.ClientModel.ClientSettings6.{settings6_of}
+use Rattle.lease_evidence.specs.EvidenceWords.Entries.{Entry}
+use Rattle.lease_evidence.specs.EvidenceWords.Inputs.{Site, StaysOn, has_carrier, is_stopped}
 use Rattle.lease6_evidence.specs.Exchanges6.{Seen6, seen6_in, shows6}
 use Rattle.lease6_evidence.specs.KeptBasis6.{HearsNoReply}
 use Rattle.lease6_evidence.specs.Replies6.{asks_at, message6_at}

@@ -4,20 +4,20 @@ use Rattle.std.specs.Prelude.{option_map, option_to_list}
 use Rattle.net_types.proofs.CaseLaws.{gated}
 use Rattle.net_types.specs.declared.address.Mac.{Mac}
 use Rattle.arp_acd.specs.declared.detection.ArpSay.{ArpSay}
-use Rattle.v4_client.specs.declared.states.Say4.{Say4}
-use Rattle.v4_client.specs.declared.states.Step4.{Step4}
+use Rattle.lease_evidence.specs.V4Client.declared.states.Say4.{Say4}
+use Rattle.lease_evidence.specs.V4Client.declared.states.Step4.{Step4}
 use Rattle.v6_frames.specs.Spelled.{Sent6}
 use Rattle.v6_client.specs.Clients.{ClientContent}
 use Rattle.v6_client.specs.Moves.{OutContent}
 use Rattle.v6_client.specs.Runs.{Turned6}
 use Rattle.v6_client.specs.Saying.{SpokenContent}
-use Rattle.ipv4ll.specs.Table.{LlStep}
-use Rattle.client_model.specs.declared.interfaces.Iface.{Iface}
-use Rattle.client_model.specs.Dhcp4Steps.{arms, begin_local, dhcp4_step, holds_lease, said_in}
-use Rattle.client_model.specs.Dhcp6Steps.{dhcp6_step}
-use Rattle.client_model.specs.IfaceSteps.{IfaceStep, silent, then_step}
-use Rattle.client_model.specs.LocalSteps.{local_off, local_step}
-use Rattle.client_model.specs.Messages.{Said, Arp, Dhcp4, Dhcp6}
+use Rattle.lease_evidence.specs.Ipv4ll.Table.{LlStep}
+use Rattle.lease_evidence.specs.ClientModel.declared.interfaces.Iface.{Iface}
+use Rattle.lease_evidence.specs.ClientModel.Dhcp4Steps.{arms, begin_local, dhcp4_step, holds_lease, said_in}
+use Rattle.lease_evidence.specs.ClientModel.Dhcp6Steps.{dhcp6_step}
+use Rattle.lease_evidence.specs.ClientModel.IfaceSteps.{IfaceStep, silent, then_step}
+use Rattle.lease_evidence.specs.ClientModel.LocalSteps.{local_off, local_step}
+use Rattle.lease_evidence.specs.ClientModel.Messages.{Said, Arp, Dhcp4, Dhcp6}
 
 -- ---- the messages of DHCPv6
 

@@ -14,12 +14,12 @@ use Rattle.udp_frame.specs.Udp6Frames.{udp6_in}
 use Rattle.udp_frame.specs.declared.udp4.TheConstants.{KIND_IPV4}
 use Rattle.udp_frame.specs.declared.udp6.TheConstants.{KIND_IPV6}
 use Rattle.v4_frames.specs.Heard as dhcp4
-use Rattle.ipv4ll.specs.declared.link_local.LinkLocal.{LinkLocal}
-use Rattle.v4_client.specs.declared.states.Carrier.TheVariants as carrier4
-use Rattle.v4_client.specs.Calls.{carrier_step}
-use Rattle.v4_client.specs.Clients as four
-use Rattle.v4_client.specs.declared.states.Tell.{Tell}
-use Rattle.v4_client.specs.declared.states.Tell.TheVariants as told
+use Rattle.lease_evidence.specs.Ipv4ll.declared.link_local.LinkLocal.{LinkLocal}
+use Rattle.lease_evidence.specs.V4Client.declared.states.Carrier.TheVariants as carrier4
+use Rattle.lease_evidence.specs.V4Client.Calls.{carrier_step}
+use Rattle.lease_evidence.specs.V4Client.Clients as four
+use Rattle.lease_evidence.specs.V4Client.declared.states.Tell.{Tell}
+use Rattle.lease_evidence.specs.V4Client.declared.states.Tell.TheVariants as told
 use Rattle.v6_options.specs.declared.ia.IaKind.{IaKind}
 use Rattle.v6_options.specs.declared.ia.IaKind.TheVariants.{Na, Pd}
 use Rattle.v6_message.specs.Replies.{Content6}
@@ -33,19 +33,19 @@ use Rattle.v6_client.specs.Runs.{Turned6, carrier_turned, contested_turned, hear
 use Rattle.world.specs.declared.wakes.Event.{Event}
 use Rattle.world.specs.declared.wakes.Event.TheVariants.{Frame, Carrier, Duplicate, Release, Rebind, Stop, Quiet, End}
 use Rattle.settings.specs.declared.interfaces.Managed.{Managed}
-use Rattle.client_model.specs.declared.interfaces.Iface.{Iface}
-use Rattle.client_model.specs.declared.steps.News.{News}
-use Rattle.client_model.specs.declared.steps.News.TheVariants as news
-use Rattle.client_model.specs.ClientSettings6.{runs_dhcp6}
-use Rattle.client_model.specs.Dhcp4Steps.{arms, arrival_at, begin_dhcp4, begin_local, dhcp4_packet, dhcp4_takes, drop_dhcp4, rebind_dhcp4, stop_dhcp4, tick_dhcp4}
-use Rattle.client_model.specs.ClientSettings.{runs_dhcp4}
-use Rattle.client_model.specs.Dhcp6Steps.{begin_dhcp6, contested, dhcp6_step, drop_dhcp6, rebind_dhcp6, stop_dhcp6, tell6_of, tick_dhcp6}
-use Rattle.client_model.specs.IfaceSteps.{IfaceStep, silent, then_step, with_news}
-use Rattle.client_model.specs.IfaceTurns.{arp_heard, arp_of_frame, hears_either, input_step, taken}
-use Rattle.client_model.specs.Interfaces.{begins, carried, carrier_goes, halted, machines_drop, machines_rebind, machines_stop, rebound, released, tells, ticked, told_at_stop}
-use Rattle.client_model.specs.LocalSteps.{local_hears, local_off, tick_local}
-use Rattle.evidence_words.specs.Entries.{Entry, Offer}
-use Rattle.evidence_words.specs.Inputs.{Site, GoesOn, StaysOn, carrier_after, has_carrier, index_at, is_stop}
+use Rattle.lease_evidence.specs.ClientModel.declared.interfaces.Iface.{Iface}
+use Rattle.lease_evidence.specs.ClientModel.declared.steps.News.{News}
+use Rattle.lease_evidence.specs.ClientModel.declared.steps.News.TheVariants as news
+use Rattle.lease_evidence.specs.ClientModel.ClientSettings6.{runs_dhcp6}
+use Rattle.lease_evidence.specs.ClientModel.Dhcp4Steps.{arms, arrival_at, begin_dhcp4, begin_local, dhcp4_packet, dhcp4_takes, drop_dhcp4, rebind_dhcp4, stop_dhcp4, tick_dhcp4}
+use Rattle.lease_evidence.specs.ClientModel.ClientSettings.{runs_dhcp4}
+use Rattle.lease_evidence.specs.ClientModel.Dhcp6Steps.{begin_dhcp6, contested, dhcp6_step, drop_dhcp6, rebind_dhcp6, stop_dhcp6, tell6_of, tick_dhcp6}
+use Rattle.lease_evidence.specs.ClientModel.IfaceSteps.{IfaceStep, silent, then_step, with_news}
+use Rattle.lease_evidence.specs.ClientModel.IfaceTurns.{arp_heard, arp_of_frame, hears_either, input_step, taken}
+use Rattle.lease_evidence.specs.ClientModel.Interfaces.{begins, carried, carrier_goes, halted, machines_drop, machines_rebind, machines_stop, rebound, released, tells, ticked, told_at_stop}
+use Rattle.lease_evidence.specs.ClientModel.LocalSteps.{local_hears, local_off, tick_local}
+use Rattle.lease_evidence.specs.EvidenceWords.Entries.{Entry, Offer}
+use Rattle.lease_evidence.specs.EvidenceWords.Inputs.{Site, GoesOn, StaysOn, carrier_after, has_carrier, index_at, is_stop}
 use Rattle.lease6_evidence.specs.ItemBasis.{NotContested}
 use Rattle.lease6_evidence.specs.Replies6.{message6_at, message6_on}
 use Rattle.lease6_evidence.proofs.Steps6.{Does, Skips, arms_skips, begin_local_skips, dhcp4_skips, dhcp6_does, local_skips, message_in, off_skips, silent_skips, sixes, then_does, then_skips}

@@ -13,9 +13,9 @@ use Rattle.v6_client.specs.Answers.{is_duid}
 use Rattle.v6_client.specs.Reading.{serves}
 use Rattle.v6_client_laws.specs.GivenItems.{Serves}
 use Rattle.v6_client_laws.proofs.Given.{items_are_given, messages_serve}
-use Rattle.evidence_words.specs.Entries.{Entry, Offer}
-use Rattle.evidence_words.specs.IfaceLives.{now_in}
-use Rattle.evidence_words.specs.Inputs.{Site, offers_at}
+use Rattle.lease_evidence.specs.EvidenceWords.Entries.{Entry, Offer}
+use Rattle.lease_evidence.specs.EvidenceWords.IfaceLives.{now_in}
+use Rattle.lease_evidence.specs.EvidenceWords.Inputs.{Site, offers_at}
 use Rattle.lease6_evidence.specs.Ends6.{WasAnswered}
 use Rattle.lease6_evidence.specs.Exchanges6.{Numbered6, Seen6, asks, asks_reply, closes6, message6_of, seen6_in, show6, shows6}
 use Rattle.lease6_evidence.specs.ItemBasis.{Gives, Leaves}

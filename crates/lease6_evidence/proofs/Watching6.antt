@@ -38,8 +38,8 @@ use Rattle.v6_client.specs.Saying.{lease_server, plea_server, spoken_by}
 use Rattle.v6_client.specs.Steps.{declining, emptied, expires, is_last, keep_by, loses, rebinding, rebinds, renewing, renews, requesting, requests, restarting, restarts, rests, soliciting, solicits, tells_parting, to_waiting, unanswered}
 use Rattle.v6_client.specs.Ticks.{restarting_tick, tick_row}
 use Rattle.v6_client.specs.Times.{elapsed, first_delay}
-use Rattle.evidence_words.specs.Entries.{Entry}
-use Rattle.evidence_words.specs.Inputs.{Site}
+use Rattle.lease_evidence.specs.EvidenceWords.Entries.{Entry}
+use Rattle.lease_evidence.specs.EvidenceWords.Inputs.{Site}
 use Rattle.lease6_evidence.specs.Exchanges6.{Numbered6, Seen6, asks, asks_reply, closes6, exchange_by, goes_on, is_solicit, joined6, opens6, shows6}
 use Rattle.lease6_evidence.specs.Replies6.{asks_at, is_from}
 use Rattle.lease6_evidence.proofs.ExchangeStates.{Answered6, Asking6, Asks6, Counted6, Follows6, LastXid6, On6, Solicits6}

@@ -10,9 +10,9 @@ use Rattle.v6_message.specs.Replies.{Content6}
 use Rattle.v6_client.specs.declared.setup.IaAsk.{IaAsk}
 use Rattle.v6_client.specs.Reading.{ia_for, no_binding, saids_of}
 use Rattle.world.specs.declared.wakes.Event.TheVariants.{Duplicate, Release, Stop}
-use Rattle.evidence_words.specs.Entries.{Entry}
-use Rattle.evidence_words.specs.Inputs.{Site, has_carrier, index_at}
-use Rattle.evidence_words.specs.Probed.{EachAfter}
+use Rattle.lease_evidence.specs.EvidenceWords.Entries.{Entry}
+use Rattle.lease_evidence.specs.EvidenceWords.Inputs.{Site, has_carrier, index_at}
+use Rattle.lease_evidence.specs.EvidenceWords.Probed.{EachAfter}
 use Rattle.lease6_evidence.specs.Exchanges6.{Numbered6}
 use Rattle.lease6_evidence.specs.ItemBasis.{ItemBasis}
 use Rattle.lease6_evidence.specs.Laws6.{Names}

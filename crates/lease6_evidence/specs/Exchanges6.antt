@@ -5,8 +5,8 @@ use Rattle.v6_message.specs.declared.kind.Kind6.{Kind6}
 use Rattle.v6_message.specs.declared.kind.Kind6.TheVariants as kind
 use Rattle.v6_message.specs.Requests.{SaidContent}
 use Rattle.v6_frames.specs.Spelled.{Sent6, sent6_in}
-use Rattle.evidence_words.specs.Entries.{Entry, Offer}
-use Rattle.evidence_words.specs.Inputs.{Site, offers_at}
+use Rattle.lease_evidence.specs.EvidenceWords.Entries.{Entry, Offer}
+use Rattle.lease_evidence.specs.EvidenceWords.Inputs.{Site, offers_at}
 use Rattle.lease6_evidence.specs.OwnMessages6.{is_own_said}
 
 -- whether a message is of this interface and this host, and as they are configured

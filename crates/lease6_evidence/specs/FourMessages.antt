@@ -3,7 +3,7 @@
 use Rattle.std.specs.Prelude.{ℕ, true, false, List, [], ◌∷◌, ◌++◌, None, Some}
 use Rattle.net_types.specs.declared.address.Net6.{Net6}
 use Rattle.net_types.specs.declared.interface.IfIndex.{IfIndex}
-use Rattle.duid_text.specs.DuidTexts.{link_layer_duid}
+use Rattle.lease_evidence.specs.DuidText.DuidTexts.{link_layer_duid}
 use Rattle.v6_options.specs.declared.ia.IaKind.TheVariants.{Na, Pd}
 use Rattle.lease6_text.specs.declared.lease.Item6.{Item6}
 use Rattle.lease6_text.specs.Leases.{IaLeaseContent, Lease6Content}
@@ -12,9 +12,9 @@ use Rattle.world.specs.declared.wakes.Event.TheVariants.{Frame, Quiet}
 use Rattle.settings.specs.declared.dhcp6_conf.ShareConf.{ShareConf}
 use Rattle.settings.specs.declared.interfaces.Managed.{Managed}
 use Rattle.settings.specs.Flags.{no_flags}
-use Rattle.client_model.specs.KeptLeases.{Beginning}
-use Rattle.evidence_words.specs.Entries.{Offer}
-use Rattle.evidence_words.specs.IfaceLives.{Opening, Met}
+use Rattle.lease_evidence.specs.ClientModel.KeptLeases.{Beginning}
+use Rattle.lease_evidence.specs.EvidenceWords.Entries.{Offer}
+use Rattle.lease_evidence.specs.EvidenceWords.IfaceLives.{Opening, Met}
 use Rattle.lease_evidence.specs.PlainIface.{client_mac, plain_eth0}
 
 -- the other interface, eth1

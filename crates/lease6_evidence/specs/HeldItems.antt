@@ -7,11 +7,11 @@ use Rattle.lease6_text.specs.declared.lease.Item6.{Item6}
 use Rattle.lease6_text.specs.Leases.{IaLeaseContent, Lease6Content}
 use Rattle.v6_client.specs.declared.setup.IaAsk.{IaAsk}
 use Rattle.v6_client.specs.Clients.{held_of}
-use Rattle.client_model.specs.Fitting.{FitsBeginning}
-use Rattle.client_model.specs.KeptLeases.{Beginning}
-use Rattle.evidence_words.specs.Inputs.{Site}
-use Rattle.evidence_words.specs.Entries.{Entry}
-use Rattle.evidence_words.specs.IfaceLives.{Opening, Met, site_of, shown, opens, iface_after, IsLived, now_in}
+use Rattle.lease_evidence.specs.ClientModel.Fitting.{FitsBeginning}
+use Rattle.lease_evidence.specs.ClientModel.KeptLeases.{Beginning}
+use Rattle.lease_evidence.specs.EvidenceWords.Inputs.{Site}
+use Rattle.lease_evidence.specs.EvidenceWords.Entries.{Entry}
+use Rattle.lease_evidence.specs.EvidenceWords.IfaceLives.{Opening, Met, site_of, shown, opens, iface_after, IsLived, now_in}
 use Rattle.lease_evidence.specs.HeldLeases.{KeepsTyped}
 use Rattle.lease6_evidence.specs.ItemBasis.{ItemBasis}
 use Rattle.lease6_evidence.specs.KeptBasis6.{KeptBasis6}

@@ -16,8 +16,8 @@ use Rattle.v6_client.specs.declared.times.TheConstants.{FOREVER, SECOND}
 use Rattle.v6_client_laws.specs.GivenItems.{GivesItem, HasNoBinding}
 use Rattle.world.specs.declared.wakes.Event.{Event}
 use Rattle.world.specs.declared.wakes.Event.TheVariants.{Duplicate}
-use Rattle.evidence_words.specs.Entries.{Entry}
-use Rattle.evidence_words.specs.Inputs.{Site, StaysOn, index_at}
+use Rattle.lease_evidence.specs.EvidenceWords.Entries.{Entry}
+use Rattle.lease_evidence.specs.EvidenceWords.Inputs.{Site, StaysOn, index_at}
 use Rattle.lease6_evidence.specs.Exchanges6.{Numbered6}
 use Rattle.lease6_evidence.specs.Replies6.{FirstReply, asks_at}
 

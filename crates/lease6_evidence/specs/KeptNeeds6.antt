@@ -10,8 +10,8 @@ use Rattle.lease6_text.specs.declared.lease.Item6.{Item6}
 use Rattle.lease6_text.specs.Leases.{IaLeaseContent, Lease6Content}
 use Rattle.v6_client.specs.declared.setup.IaAsk.{IaAsk}
 use Rattle.v6_client.specs.declared.times.TheConstants.{RESTART_TIME}
-use Rattle.evidence_words.specs.Entries.{Entry}
-use Rattle.evidence_words.specs.Inputs.{Site}
+use Rattle.lease_evidence.specs.EvidenceWords.Entries.{Entry}
+use Rattle.lease_evidence.specs.EvidenceWords.Inputs.{Site}
 use Rattle.lease6_evidence.specs.Ends6.{ItemWord}
 use Rattle.lease6_evidence.specs.Exchanges6.{Numbered6, messages6_at}
 use Rattle.lease6_evidence.specs.KeptBasis6.{KeptBasis6, SaysNone6, speaks6}

@@ -5,8 +5,8 @@ use Rattle.net_types.specs.declared.address.Net6.{Net6}
 use Rattle.v6_message.specs.Replies.{Content6}
 use Rattle.v6_client.specs.declared.setup.IaAsk.{IaAsk}
 use Rattle.v6_client.specs.declared.times.TheConstants.{FOREVER, SECOND}
-use Rattle.evidence_words.specs.Entries.{Entry}
-use Rattle.evidence_words.specs.Inputs.{Site}
+use Rattle.lease_evidence.specs.EvidenceWords.Entries.{Entry}
+use Rattle.lease_evidence.specs.EvidenceWords.Inputs.{Site}
 use Rattle.lease6_evidence.specs.Exchanges6.{Numbered6, seen6_in}
 use Rattle.lease6_evidence.specs.ItemBasis.{ItemBasis, Mentions}
 use Rattle.lease6_evidence.specs.Replies6.{GoodReply, message6_at}

@@ -7,8 +7,8 @@ use Rattle.v6_message.specs.Requests.{AskedContent}
 use Rattle.v6_frames.specs.Spelled.{Sent6, frame6_of}
 use Rattle.v6_client.specs.declared.setup.IaAsk.{IaAsk}
 use Rattle.v6_client.specs.Asking.{ia_solicited}
-use Rattle.evidence_words.specs.Entries.{Offer}
-use Rattle.evidence_words.specs.Inputs.{Site}
+use Rattle.lease_evidence.specs.EvidenceWords.Entries.{Offer}
+use Rattle.lease_evidence.specs.EvidenceWords.Inputs.{Site}
 use Rattle.lease6_evidence.specs.Exchanges6.{message6_of}
 use Rattle.lease6_evidence.specs.OwnMessages6.{is_rapid}
 use Rattle.lease6_evidence.specs.Replies6.{asks_at}

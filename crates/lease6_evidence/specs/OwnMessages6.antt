@@ -9,7 +9,7 @@ use Rattle.settings.specs.declared.interfaces.Managed.{Managed}
 use Rattle.v6_client.specs.declared.setup.IaAsk.{IaAsk}
 use Rattle.v6_client.specs.Asking.{hinted}
 use Rattle.v6_client.specs.Items.{is_nonempty}
-use Rattle.client_model.specs.ClientSettings6.{ask_for}
+use Rattle.lease_evidence.specs.ClientModel.ClientSettings6.{ask_for}
 
 -- ---- the IAs of a message
 

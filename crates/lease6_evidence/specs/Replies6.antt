@@ -12,9 +12,9 @@ use Rattle.v6_client.specs.Answers.{has_bytes, is_duid}
 use Rattle.v6_client_laws.specs.GivenItems.{Serves}
 use Rattle.world.specs.declared.wakes.Event.{Event}
 use Rattle.world.specs.declared.wakes.Event.TheVariants.{Frame}
-use Rattle.client_model.specs.ClientSettings6.{ask_for}
-use Rattle.evidence_words.specs.Entries.{Entry}
-use Rattle.evidence_words.specs.Inputs.{Site, index_at}
+use Rattle.lease_evidence.specs.ClientModel.ClientSettings6.{ask_for}
+use Rattle.lease_evidence.specs.EvidenceWords.Entries.{Entry}
+use Rattle.lease_evidence.specs.EvidenceWords.Inputs.{Site, index_at}
 use Rattle.lease6_evidence.specs.Exchanges6.{Exchange, Numbered6, seen6_in}
 
 -- the server's message that came in on the interface

@@ -16,8 +16,8 @@ use Rattle.lease6_text.specs.Leases.{IaLeaseContent}
 use Rattle.v6_client.specs.declared.setup.IaAsk.{IaAsk}
 use Rattle.v6_client.specs.Answers.{is_duid}
 use Rattle.v6_client.specs.Reading.{serves}
-use Rattle.evidence_words.specs.Entries.{Entry, Offer}
-use Rattle.evidence_words.specs.Inputs.{Site, offers_at}
+use Rattle.lease_evidence.specs.EvidenceWords.Entries.{Entry, Offer}
+use Rattle.lease_evidence.specs.EvidenceWords.Inputs.{Site, offers_at}
 use Rattle.lease6_evidence.specs.Ends6.{WasAnswered, said_for}
 use Rattle.lease6_evidence.specs.Exchanges6.{Numbered6, asks_reply, message6_of, seen6_in}
 use Rattle.lease6_evidence.specs.HeldItems.{HasItemBasis}

@@ -3,7 +3,7 @@
 ghost use Rattle.std.specs.Prelude.{◌≡◌, ◌∷◌, [], Some};
 ghost use Rattle.net_types.specs.declared.address.Net.TheVariants.{V6};
 ghost use Rattle.v6_client.specs.Clients.{held_of};
-ghost use Rattle.evidence_words.specs.IfaceLives.{IsLived, iface_after, shown, site_of};
+ghost use Rattle.lease_evidence.specs.EvidenceWords.IfaceLives.{IsLived, iface_after, shown, site_of};
 ghost use Rattle.lease_evidence.specs.PlainIface.{client_mac};
 ghost use Rattle.lease6_evidence.specs.Ends6.{EndsBy, IsReleased, IsStopped, IsUnknown, IsUsedTwice, IsWithdrawn, LosesCarrier};
 ghost use Rattle.lease6_evidence.specs.FourMessages.{beginning, granted, lease, opening, prefix, prefixes, three_turns};

@@ -15,8 +15,8 @@ use Rattle.v6_client.specs.Reading.{serves}
 use Rattle.v6_client_laws.specs.GivenItems.{IsHeldAs}
 use Rattle.v6_client_laws.proofs.FirstItems.{middle_in}
 use Rattle.v6_client_laws.proofs.Given.{messages_serve}
-use Rattle.evidence_words.specs.Entries.{Entry}
-use Rattle.evidence_words.specs.Inputs.{Site}
+use Rattle.lease6_evidence.specs.EvidenceWords.Entries.{Entry}
+use Rattle.lease6_evidence.specs.EvidenceWords.Inputs.{Site}
 use Rattle.lease6_evidence.specs.Exchanges6.{Numbered6, Seen6, messages6_at, seen6_in, show6}
 use Rattle.lease6_evidence.specs.ItemBasis.{AddressBasis, Gives, IsValid, ItemBasis, Mentions, Revises}
 use Rattle.lease6_evidence.specs.Replies6.{FirstReply, GoodReply, NoReply, answers, asks_at, message6_at}

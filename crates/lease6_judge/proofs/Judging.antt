@@ -8,8 +8,8 @@ use Rattle.v6_options.specs.Ias.{ias_in}
 use Rattle.v6_message.specs.Replies.{Content6}
 use Rattle.v6_client.specs.declared.setup.IaAsk.{IaAsk}
 use Rattle.v6_client_laws.proofs.Given.{items_are_given}
-use Rattle.evidence_words.specs.Entries.{Entry}
-use Rattle.evidence_words.specs.Inputs.{GoesOn, Site, StaysOn, index_at}
+use Rattle.lease6_evidence.specs.EvidenceWords.Entries.{Entry}
+use Rattle.lease6_evidence.specs.EvidenceWords.Inputs.{GoesOn, Site, StaysOn, index_at}
 use Rattle.lease6_evidence.specs.Ends6.{said_for}
 use Rattle.lease6_evidence.specs.Exchanges6.{Numbered6}
 use Rattle.lease6_evidence.specs.ItemBasis.{AddressBasis, Gives, ItemBasis, Leaves, NotContested, Revises}

@@ -9,8 +9,8 @@ use Rattle.v6_message.specs.Requests.{SaidContent}
 use Rattle.v6_frames.specs.Spelled.{Sent6}
 use Rattle.v6_client.specs.Reading.{serves}
 use Rattle.v6_client_laws.proofs.Given.{messages_serve}
-use Rattle.evidence_words.specs.Entries.{Entry}
-use Rattle.evidence_words.specs.Inputs.{Site, index_at, has_carrier, carrier_after}
+use Rattle.lease6_evidence.specs.EvidenceWords.Entries.{Entry}
+use Rattle.lease6_evidence.specs.EvidenceWords.Inputs.{Site, index_at, has_carrier, carrier_after}
 use Rattle.lease6_evidence.specs.Exchanges6.{Numbered6, Seen6, asks, asks_reply, closes6, joined6, messages6_at, opens6, seen6_in, show6, shows6}
 use Rattle.lease6_evidence.specs.Replies6.{FirstReply, GoodReply, NoReply, answers, asks_at, message6_at}
 use Rattle.lease6_judge.specs.Watching.{Replied, answered_after, first_in, first_reply, is_first, watch_in}

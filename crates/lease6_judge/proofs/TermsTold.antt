@@ -18,7 +18,7 @@ use Rattle.v6_client_laws.proofs.FirstItems.{behind_in, front_in}
 use Rattle.v6_client_laws.proofs.Given.{bindings_are_known, items_are_given, met}
 use Rattle.world.specs.declared.wakes.Event.{Event}
 use Rattle.world.specs.declared.wakes.Event.TheVariants.{Frame, Carrier, Duplicate, Release, Rebind, Stop, Quiet, End}
-use Rattle.evidence_words.specs.Inputs.{GoesOn}
+use Rattle.lease6_evidence.specs.EvidenceWords.Inputs.{GoesOn}
 use Rattle.lease6_evidence.specs.Ends6.{said_for}
 use Rattle.lease6_evidence.specs.ItemBasis.{IsValid, Mentions, NotContested, Revises}
 use Rattle.lease6_judge.specs.Terms.{Term, not_held, held_until, held_forever, gives, is_alone, is_held, is_same_net, longer, names, revises, stays, term_in_saids, term_of}

@@ -13,8 +13,8 @@ use Rattle.v6_options.specs.Ias.{IaContent, ias_in}
 use Rattle.v6_message.specs.Replies.{Content6}
 use Rattle.v6_client.specs.declared.setup.IaAsk.{IaAsk}
 use Rattle.v6_client_laws.specs.GivenItems.{IsHeldAs, IsOf, IsWell, MayBeHeld}
-use Rattle.evidence_words.specs.Entries.{Entry}
-use Rattle.evidence_words.specs.Inputs.{Site, StaysOn, index_at}
+use Rattle.lease6_evidence.specs.EvidenceWords.Entries.{Entry}
+use Rattle.lease6_evidence.specs.EvidenceWords.Inputs.{Site, StaysOn, index_at}
 use Rattle.lease6_evidence.specs.Exchanges6.{Numbered6}
 use Rattle.lease6_evidence.specs.ItemBasis.{IsValid, NotContested, Revises}
 use Rattle.lease6_evidence.specs.Replies6.{FirstReply, GoodReply, asks_at}

@@ -4,8 +4,8 @@ use Rattle.std.specs.List.{Contains}
 use Rattle.net_types.specs.declared.address.Net.{Net}
 use Rattle.net_types.specs.declared.address.Net6.{Net6}
 use Rattle.v6_client.specs.declared.setup.IaAsk.{IaAsk}
-use Rattle.evidence_words.specs.Entries.{Entry}
-use Rattle.evidence_words.specs.Inputs.{Site}
+use Rattle.lease6_evidence.specs.EvidenceWords.Entries.{Entry}
+use Rattle.lease6_evidence.specs.EvidenceWords.Inputs.{Site}
 use Rattle.lease6_evidence.specs.ItemBasis.{AddressBasis, ItemBasis}
 use Rattle.lease6_judge.specs.HeardBasis.{HeardAddressBasis, HeardBasis}
 use Rattle.lease6_judge.specs.HeardTerms.{heard_in}

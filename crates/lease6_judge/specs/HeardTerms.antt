@@ -8,8 +8,8 @@ use Rattle.v6_options.specs.Ias.{IaContent, ias_in}
 use Rattle.v6_message.specs.Replies.{Content6}
 use Rattle.v6_client.specs.declared.setup.IaAsk.{IaAsk}
 use Rattle.v6_client.specs.Reading.{is_for, is_readable, read_item, serves}
-use Rattle.evidence_words.specs.Entries.{Entry}
-use Rattle.evidence_words.specs.Inputs.{Site}
+use Rattle.lease6_evidence.specs.EvidenceWords.Entries.{Entry}
+use Rattle.lease6_evidence.specs.EvidenceWords.Inputs.{Site}
 use Rattle.lease6_evidence.specs.Exchanges6.{Numbered6, messages6_at, show6}
 use Rattle.lease6_evidence.specs.Replies6.{answers, asks_at, message6_at}
 use Rattle.lease6_judge.specs.Watching.{Replied, Watch, watch_in}

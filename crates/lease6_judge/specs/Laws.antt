@@ -7,8 +7,8 @@ use Rattle.net_types.specs.declared.address.Net6.{Net6}
 use Rattle.v6_options.specs.declared.ia.IaKind.TheVariants.{Na}
 use Rattle.v6_message.specs.Replies.{Content6}
 use Rattle.v6_client.specs.declared.setup.IaAsk.{IaAsk}
-use Rattle.evidence_words.specs.Entries.{Entry}
-use Rattle.evidence_words.specs.Inputs.{Site}
+use Rattle.lease6_evidence.specs.EvidenceWords.Entries.{Entry}
+use Rattle.lease6_evidence.specs.EvidenceWords.Inputs.{Site}
 use Rattle.lease6_evidence.specs.Exchanges6.{Numbered6}
 use Rattle.lease6_evidence.specs.ItemBasis.{AddressBasis, ItemBasis}
 use Rattle.lease6_evidence.specs.Replies6.{FirstReply, asks_at}

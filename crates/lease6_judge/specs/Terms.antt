@@ -14,8 +14,8 @@ use Rattle.v6_client.specs.declared.times.TheConstants.{FOREVER, SECOND}
 use Rattle.v6_client.specs.Reading.{ia_for, is_unbound}
 use Rattle.world.specs.declared.wakes.Event.{Event}
 use Rattle.world.specs.declared.wakes.Event.TheVariants.{Carrier, Duplicate, Release, Stop}
-use Rattle.evidence_words.specs.Entries.{Entry}
-use Rattle.evidence_words.specs.Inputs.{Site, index_at}
+use Rattle.lease6_evidence.specs.EvidenceWords.Entries.{Entry}
+use Rattle.lease6_evidence.specs.EvidenceWords.Inputs.{Site, index_at}
 use Rattle.lease6_evidence.specs.Ends6.{said_for}
 use Rattle.lease6_judge.specs.Watching.{Replied, Watch, first_reply, watch_in}
 

@@ -3,8 +3,8 @@
 use Rattle.std.specs.Prelude.{ℕ, Bool, not, ◌&&◌, ◌==◌, if◌then◌else◌, List, [], ◌∷◌, Option, Some, None}
 use Rattle.v6_message.specs.Replies.{Content6}
 use Rattle.v6_client.specs.Reading.{serves}
-use Rattle.evidence_words.specs.Entries.{Entry}
-use Rattle.evidence_words.specs.Inputs.{Site, index_at, carrier_after}
+use Rattle.lease6_evidence.specs.EvidenceWords.Entries.{Entry}
+use Rattle.lease6_evidence.specs.EvidenceWords.Inputs.{Site, index_at, carrier_after}
 use Rattle.lease6_evidence.specs.Exchanges6.{Numbered6, Seen6, messages6_at, show6}
 use Rattle.lease6_evidence.specs.Replies6.{answers, asks_at, message6_at}
 

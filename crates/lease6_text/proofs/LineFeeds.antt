@@ -2,8 +2,8 @@
 use Rattle.std.proofs.Common.{ℕ, ◌^◌, ◌<◌, List, [], ◌∷◌, ◌++◌, map, Option, Some, None, refl, arith, flat_map}
 use Rattle.std.specs.Prelude.{IfSome, decimal}
 use Rattle.std.specs.List.{AllByRecursion}
-use Rattle.field_laws.specs.Fields.{Field, IsField}
-use Rattle.field_laws.proofs.KindLaws.{mac_is, name_is, number_is}
+use Rattle.lease_text.specs.FieldLaws.Fields.{Field, IsField}
+use Rattle.lease_text.proofs.FieldLaws.KindLaws.{mac_is, name_is, number_is}
 use Rattle.net_types.specs.declared.interface.Name.{Name}
 use Rattle.net_types.specs.declared.moment.TheConstants.{MOMENT_LIMIT}
 use Rattle.net_types.specs.AddressText.{FitsIp6, FitsMac}

@@ -9,7 +9,7 @@ use Rattle.std.proofs.lemmas.Slice.Eq.{bytes_eq-Decides}
 use Rattle.net_types.specs.declared.address.Ip6.{Ip6}
 use Rattle.net_types.specs.declared.address.Net6.{Net6}
 use Rattle.net_types.specs.declared.address.Net.TheVariants.{V6}
-use Rattle.field_laws.specs.Fields.{IsField, LacksBlank}
+use Rattle.lease_text.specs.FieldLaws.Fields.{IsField, LacksBlank}
 use Rattle.net_types.specs.AddressText.{FitsIp6, FitsNet6, net6_text, net_text}
 use Rattle.net_types.specs.Cutting.{after_word, by_word, strip_word}
 use Rattle.net_types.specs.HexText.{hex_text}

@@ -3,8 +3,8 @@ use Rattle.std.proofs.Common.{◌≡◌, ℕ, ◌<◌, List, [], ◌∷◌, ◌+
 use Rattle.std.proofs.lemmas.Grind.{flat_map-append}
 use Rattle.std.proofs.lemmas.List.{append-nil, map-append}
 use Rattle.std.proofs.lemmas.Option.{none-some}
-use Rattle.field_laws.specs.Fields.{Field, IsField}
-use Rattle.field_laws.proofs.KindLaws.{mac_is, name_is, number_is}
+use Rattle.lease_text.specs.FieldLaws.Fields.{Field, IsField}
+use Rattle.lease_text.proofs.FieldLaws.KindLaws.{mac_is, name_is, number_is}
 use Rattle.net_types.specs.declared.address.Mac.{Mac}
 use Rattle.net_types.specs.declared.interface.Name.{Name}
 use Rattle.net_types.specs.declared.moment.TheConstants.{MOMENT_LIMIT}

@@ -3,8 +3,8 @@ use Rattle.std.proofs.Common.{◌≡◌, ℕ, suc, ◌+◌, ◌≤◌, true, Lis
 use Rattle.std.specs.Prelude.{AllPairs, IfSome, decimal}
 use Rattle.std.specs.List.{AllByRecursion}
 use Rattle.std.proofs.lemmas.List.{append-nil}
-use Rattle.field_laws.specs.Fields.{Field, IsField}
-use Rattle.field_laws.proofs.KindLaws.{mac_is, name_is, number_is}
+use Rattle.lease_text.specs.FieldLaws.Fields.{Field, IsField}
+use Rattle.lease_text.proofs.FieldLaws.KindLaws.{mac_is, name_is, number_is}
 use Rattle.net_types.specs.declared.interface.Name.{Name}
 use Rattle.net_types.specs.declared.moment.TheConstants.{MOMENT_LIMIT}
 use Rattle.net_types.specs.AddressText.{FitsIp6, FitsMac}

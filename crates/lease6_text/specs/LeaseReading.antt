@@ -2,7 +2,7 @@
 use Rattle.std.specs.Prelude.{ℕ, List, [], ◌∷◌, ◌++◌, replicate, Option, Some, None, option_map}
 use Rattle.net_types.specs.declared.address.Mac.{Mac}
 use Rattle.net_types.specs.declared.interface.Name.{Name}
-use Rattle.field_laws.specs.Kinds.{mac_field, name_field, number_field}
+use Rattle.lease_text.specs.FieldLaws.Kinds.{mac_field, name_field, number_field}
 use Rattle.net_types.specs.declared.moment.TheConstants.{MOMENT_LIMIT}
 use Rattle.net_types.specs.Cutting.{Choices, after_word, by_word, choose_at, end_at, guarded, strip_word}
 use Rattle.net_types.specs.TextLines.{Line}

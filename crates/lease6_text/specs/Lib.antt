@@ -7,3 +7,4 @@ pub mod LineFields
 pub mod LeaseReading
 pub mod LinesRead
 pub mod ReadBack
+pub use Rattle.lease_text.specs as LeaseText

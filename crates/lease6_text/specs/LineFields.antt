@@ -1,6 +1,6 @@
 -- The fields of lines that are a DHCPv6 lease's own.
 use Rattle.std.specs.Prelude.{ℕ, List, Option}
-use Rattle.field_laws.specs.Fields.{Field}
+use Rattle.lease_text.specs.FieldLaws.Fields.{Field}
 use Rattle.net_types.specs.HexText.{hex_text}
 use Rattle.lease6_text.specs.Bounds.{FitsMoment, IsDuid}
 use Rattle.lease6_text.specs.LeaseLines.{moment_text}

@@ -19,6 +19,7 @@ pub use lease::{
     ADDRESS_LEN, IA_LIMIT, ITEM_LIMIT, IaLease, Item6, LONGEST_DELEGATED, Lease6, MOMENT6_LIMIT,
     SHORTEST_DELEGATED,
 };
+pub use lease_text::{Origin, Value, copied_values};
 pub use printing::print6;
 pub use reading::read_lease6;
 pub use typed::lease6_is_typed;

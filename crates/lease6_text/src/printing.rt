@@ -9,8 +9,7 @@ ghost use Rattle.lease6_text.specs.LeaseLines.{first_line, grant_lines, head_lin
 
 use crate::lease::{IaLease, Item6, Lease6};
 use crate::typed::lease6_is_typed;
-use lease_text::{Origin, append_values};
-use line_grammar::{AppendField, append_line};
+use lease_text::{AppendField, Origin, append_line, append_values};
 use net_types::{Hex, NoMemory, append_bytes, append_number};
 use std::alloc::Global;
 use v6_options::IaKind;

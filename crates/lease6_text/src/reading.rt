@@ -17,8 +17,7 @@ use crate::lease::{IaLease, Lease6};
 use crate::parts::{
     ia_of, item_of, item_word, may_begin, may_join, moment_of, server_of, value_of,
 };
-use lease_text::{LeaseFault, Origin, Value};
-use line_grammar::{Below, read_line};
+use lease_text::{Below, LeaseFault, Origin, Value, read_line};
 use net_types::{
     BadText, LineFault, LineState, MOMENT_LIMIT, Mac, Name, NoMemory, end_of, read_lines,
     strip_word,

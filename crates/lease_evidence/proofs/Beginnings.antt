@@ -5,10 +5,10 @@ use Rattle.std.specs.Prelude.{if◌then◌else◌, option_map}
 use Rattle.machine.specs.Moment.{is_due}
 use Rattle.net_types.proofs.CaseLaws.{gated}
 use Rattle.net_types.specs.declared.interface.IfIndex.{IfIndex}
-use Rattle.ipv4ll.specs.declared.link_local.LinkLocal.{LinkLocal}
-use Rattle.ipv4ll.specs.declared.link_local.Fallback.TheVariants.{Choose}
-use Rattle.ipv4ll.specs.declared.link_local.Waits.TheVariants.{ForLease, ForNothing}
-use Rattle.ipv4ll.specs.Table.{off, held_in, ll_armed}
+use Rattle.evidence_words.specs.Ipv4ll.declared.link_local.LinkLocal.{LinkLocal}
+use Rattle.evidence_words.specs.Ipv4ll.declared.link_local.Fallback.TheVariants.{Choose}
+use Rattle.evidence_words.specs.Ipv4ll.declared.link_local.Waits.TheVariants.{ForLease, ForNothing}
+use Rattle.evidence_words.specs.Ipv4ll.Table.{off, held_in, ll_armed}
 use Rattle.lease_text.specs.declared.lease.Origin.{Origin}
 use Rattle.lease_text.specs.declared.lease.Terms4.{Terms4}
 use Rattle.lease_text.specs.Leases.{LeaseContent, terms_of}
@@ -22,29 +22,29 @@ use Rattle.v4_client.specs.Inputs as inputs
 use Rattle.v4_client.specs.Inputs.{stood}
 use Rattle.v4_client.specs.Moments.{expiry}
 use Rattle.v4_client.specs.Steps.{to_init, new_exchange, rebooting}
-use Rattle.v6_client.specs.declared.states.Carrier6.TheVariants.{Up}
-use Rattle.v6_client.specs.declared.states.State6.TheVariants.{Off}
-use Rattle.v6_client.specs.declared.states.Step6.{Step6}
-use Rattle.v6_client.specs.Calls.{has_origin, parting_begun, pruned, stands_at}
-use Rattle.v6_client.specs.Clients as client6
-use Rattle.v6_client.specs.Clients.{ClientContent, is_off}
-use Rattle.v6_client.specs.Inputs.{begin_row}
-use Rattle.v6_client.specs.Moves.{moved}
-use Rattle.v6_client.specs.Runs.{carrier_turned}
-use Rattle.v6_client.specs.Steps.{restarts, to_waiting}
+use Rattle.evidence_words.specs.V6Client.declared.states.Carrier6.TheVariants.{Up}
+use Rattle.evidence_words.specs.V6Client.declared.states.State6.TheVariants.{Off}
+use Rattle.evidence_words.specs.V6Client.declared.states.Step6.{Step6}
+use Rattle.evidence_words.specs.V6Client.Calls.{has_origin, parting_begun, pruned, stands_at}
+use Rattle.evidence_words.specs.V6Client.Clients as client6
+use Rattle.evidence_words.specs.V6Client.Clients.{ClientContent, is_off}
+use Rattle.evidence_words.specs.V6Client.Inputs.{begin_row}
+use Rattle.evidence_words.specs.V6Client.Moves.{moved}
+use Rattle.evidence_words.specs.V6Client.Runs.{carrier_turned}
+use Rattle.evidence_words.specs.V6Client.Steps.{restarts, to_waiting}
 use Rattle.script_model.specs.IfaceSets.{is_up}
 use Rattle.settings.specs.declared.interfaces.IfConf.{IfConf}
-use Rattle.client_model.specs.declared.interfaces.Iface.{Iface}
-use Rattle.client_model.specs.ClientSettings.{runs_dhcp4}
-use Rattle.client_model.specs.ClientSettings6.{runs_dhcp6, settings6_of}
-use Rattle.client_model.specs.Dhcp4Steps.{begin_dhcp4, begin_local, dhcp4_step, followed, holds_lease}
-use Rattle.client_model.specs.Dhcp6Steps.{begin_dhcp6, dhcp6_step}
-use Rattle.client_model.specs.IfaceSteps.{IfaceStep, silent}
-use Rattle.client_model.specs.Interfaces.{resting, carrier_comes, carrier_at_opening}
-use Rattle.client_model.specs.KeptLeases.{Beginning}
-use Rattle.client_model.specs.LocalSteps.{armed, armed_for_lease, chooses_local, fallback_of}
+use Rattle.evidence_words.specs.ClientModel.declared.interfaces.Iface.{Iface}
+use Rattle.evidence_words.specs.ClientModel.ClientSettings.{runs_dhcp4}
+use Rattle.evidence_words.specs.ClientModel.ClientSettings6.{runs_dhcp6, settings6_of}
+use Rattle.evidence_words.specs.ClientModel.Dhcp4Steps.{begin_dhcp4, begin_local, dhcp4_step, followed, holds_lease}
+use Rattle.evidence_words.specs.ClientModel.Dhcp6Steps.{begin_dhcp6, dhcp6_step}
+use Rattle.evidence_words.specs.ClientModel.IfaceSteps.{IfaceStep, silent}
+use Rattle.evidence_words.specs.ClientModel.Interfaces.{resting, carrier_comes, carrier_at_opening}
+use Rattle.evidence_words.specs.ClientModel.KeptLeases.{Beginning}
+use Rattle.evidence_words.specs.ClientModel.LocalSteps.{armed, armed_for_lease, chooses_local, fallback_of}
 use Rattle.world.specs.declared.rows.HostRow.{HostRow}
-use Rattle.client_model.specs.WantedRows.{outlet_of, iface_rows, lease_rows, local_rows, lease6_rows}
+use Rattle.evidence_words.specs.ClientModel.WantedRows.{outlet_of, iface_rows, lease_rows, local_rows, lease6_rows}
 use Rattle.net_types.specs.declared.address.Net.{Net}
 use Rattle.net_types.specs.declared.address.Net.TheVariants.{V4}
 use Rattle.world.specs.declared.wakes.Event.TheVariants.{Frame, Quiet}

@@ -29,9 +29,9 @@ use Rattle.v4_client.specs.Steps.{rests}
 use Rattle.v4_client.specs.Ticks.{tick_row}
 use Rattle.v4_client.proofs.SoundClients.{moved_sound}
 use Rattle.v4_client.proofs.SoundSteps.{tick_sound, rests_sound, unsent_sound}
-use Rattle.client_model.specs.Messages.{Said}
-use Rattle.client_model.specs.ClientSettings.{ask_of, settings_of}
-use Rattle.client_model.specs.Dhcp4Steps.{said_in}
+use Rattle.evidence_words.specs.ClientModel.Messages.{Said}
+use Rattle.evidence_words.specs.ClientModel.ClientSettings.{ask_of, settings_of}
+use Rattle.evidence_words.specs.ClientModel.Dhcp4Steps.{said_in}
 use Rattle.evidence_words.specs.Entries.{Entry}
 use Rattle.evidence_words.specs.Inputs.{Site, index_at, offers_at, carrier_after, has_carrier}
 use Rattle.evidence_words.proofs.Offers.{Offered}

@@ -8,7 +8,7 @@ use Rattle.net_types.proofs.CaseLaws.{split}
 use Rattle.v4_message.specs.declared.writing.Kind4.{Kind4}
 use Rattle.v4_frames.specs.Heard.{HeardMessage, heard4_in}
 use Rattle.v4_client.specs.Messages.{Arrival}
-use Rattle.client_model.specs.Dhcp4Steps.{arrival_at}
+use Rattle.evidence_words.specs.ClientModel.Dhcp4Steps.{arrival_at}
 use Rattle.world.specs.declared.wakes.Event.{Event}
 use Rattle.world.specs.declared.wakes.Event.TheVariants.{Frame, Carrier, Duplicate, Release, Rebind, Stop, Quiet, End}
 use Rattle.evidence_words.specs.Entries.{Entry, Offer}

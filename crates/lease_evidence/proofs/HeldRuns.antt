@@ -8,15 +8,15 @@ use Rattle.lease_text.specs.Leases.{LeaseContent}
 use Rattle.settings.specs.declared.interfaces.Managed.{Managed}
 use Rattle.script_model.specs.IfaceSets.{is_in, is_up}
 use Rattle.v4_client.specs.Clients.{held_of}
-use Rattle.client_model.specs.declared.interfaces.Iface.{Iface}
-use Rattle.client_model.specs.Messages.{Said}
-use Rattle.client_model.specs.ClientSettings.{ask_of}
-use Rattle.client_model.specs.Clients.{frame_of}
-use Rattle.client_model.specs.Fitting.{FitsBeginning}
-use Rattle.client_model.specs.IfaceSteps.{index_of}
-use Rattle.client_model.specs.IfaceTurns.{iface_turned}
-use Rattle.client_model.specs.KeptLeases.{Beginning}
-use Rattle.client_model.proofs.SameInterfaces.{opened_same, turned_same}
+use Rattle.evidence_words.specs.ClientModel.declared.interfaces.Iface.{Iface}
+use Rattle.evidence_words.specs.ClientModel.Messages.{Said}
+use Rattle.evidence_words.specs.ClientModel.ClientSettings.{ask_of}
+use Rattle.evidence_words.specs.ClientModel.Clients.{frame_of}
+use Rattle.evidence_words.specs.ClientModel.Fitting.{FitsBeginning}
+use Rattle.evidence_words.specs.ClientModel.IfaceSteps.{index_of}
+use Rattle.evidence_words.specs.ClientModel.IfaceTurns.{iface_turned}
+use Rattle.evidence_words.specs.ClientModel.KeptLeases.{Beginning}
+use Rattle.evidence_words.proofs.ClientModel.SameInterfaces.{opened_same, turned_same}
 use Rattle.v4_message.specs.Requests.{AskContent}
 use Rattle.evidence_words.specs.Entries.{Offer}
 use Rattle.evidence_words.specs.Inputs.{Site, offers_at}

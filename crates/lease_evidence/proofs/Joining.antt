@@ -4,10 +4,10 @@ use Rattle.std.specs.List.{AllByRecursion}
 use Rattle.net_types.specs.Marks.{AreBytes}
 use Rattle.net_types.specs.declared.address.Net.TheVariants.{V4}
 use Rattle.lease_text.specs.Leases.{LeaseContent}
-use Rattle.lease6_text.specs.Bounds.{IsDuid}
+use Rattle.evidence_words.specs.Lease6Text.Bounds.{IsDuid}
 use Rattle.settings.specs.Fitting.{FitsManaged}
 use Rattle.v4_client.specs.Clients.{held_of}
-use Rattle.client_model.specs.declared.interfaces.Iface.{Iface}
+use Rattle.evidence_words.specs.ClientModel.declared.interfaces.Iface.{Iface}
 use Rattle.evidence_words.specs.Entries.{Entry}
 use Rattle.evidence_words.specs.Inputs.{Site}
 use Rattle.evidence_words.proofs.Carrying.{Relation, IsCarried}

@@ -11,7 +11,7 @@ use Rattle.v4_client.specs.declared.moments.TheConstants.{SECOND}
 use Rattle.v4_client.specs.declared.states.Answer4.TheVariants as answer
 use Rattle.v4_client.specs.Answers.{is_unexpired, is_answer}
 use Rattle.v4_client.specs.Messages.{Arrival}
-use Rattle.client_model.specs.ClientSettings.{settings_of}
+use Rattle.evidence_words.specs.ClientModel.ClientSettings.{settings_of}
 use Rattle.evidence_words.specs.Entries.{Entry}
 use Rattle.evidence_words.specs.Inputs.{Site}
 use Rattle.lease_evidence.specs.Exchanges.{Numbered}

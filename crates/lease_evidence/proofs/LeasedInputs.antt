@@ -10,15 +10,15 @@ use Rattle.net_types.specs.declared.address.Mac.{Mac}
 use Rattle.frame_link.specs.declared.arp.ArpView.{ArpView}
 use Rattle.frame_link.specs.Frames as ethernet
 use Rattle.frame_link.specs.Packets.{arp_kind}
-use Rattle.ipv4ll.specs.Table.{ll_hears}
+use Rattle.evidence_words.specs.Ipv4ll.Table.{ll_hears}
 use Rattle.lease_text.specs.Bounds.{FitsLease, IsTyped}
 use Rattle.lease_text.specs.Leases.{LeaseContent, terms_of}
 use Rattle.udp_frame.specs.declared.udp4.TheConstants.{KIND_IPV4}
 use Rattle.v4_frames.specs.Heard.{HeardMessage, same_mac, message_for, heard4_in}
 use Rattle.v4_frames.specs.InRange as sent
-use Rattle.v6_frames.specs.Heard.{HeardMessage6, heard6_in}
-use Rattle.v6_client.specs.declared.states.Carrier6.TheVariants as carrier6
-use Rattle.v6_client.specs.Runs.{Turned6, hears_turned, carrier_turned, contested_turned, release_turned, rebind_turned}
+use Rattle.evidence_words.specs.V6Frames.Heard.{HeardMessage6, heard6_in}
+use Rattle.evidence_words.specs.V6Client.declared.states.Carrier6.TheVariants as carrier6
+use Rattle.evidence_words.specs.V6Client.Runs.{Turned6, hears_turned, carrier_turned, contested_turned, release_turned, rebind_turned}
 use Rattle.v4_client.specs.declared.states.Answer4.TheVariants as answer
 use Rattle.v4_client.specs.declared.states.Carrier.TheVariants.{Up, Down}
 use Rattle.v4_client.specs.declared.states.Exchange4.{Exchange4}
@@ -44,16 +44,16 @@ use Rattle.v4_client.proofs.SoundSteps.{heard_sound, arp_sound, begin_sound, off
 use Rattle.settings.specs.declared.interfaces.Managed.{Managed}
 use Rattle.world.specs.declared.wakes.Event.{Event}
 use Rattle.world.specs.declared.wakes.Event.TheVariants.{Frame, Carrier, Duplicate, Release, Rebind, Stop, Quiet, End}
-use Rattle.client_model.specs.declared.interfaces.Iface.{Iface}
-use Rattle.client_model.specs.Messages.{Said, Arp}
-use Rattle.client_model.specs.ClientSettings.{ask_of, settings_of, runs_dhcp4}
-use Rattle.client_model.specs.ClientSettings6.{runs_dhcp6}
-use Rattle.client_model.specs.Dhcp4Steps.{holds_lease, said_in, dhcp4_step, arrival_at, begin_dhcp4, begin_local, rebind_dhcp4, drop_dhcp4, stop_dhcp4, arms}
-use Rattle.client_model.specs.Dhcp6Steps.{contested, said6_in, dhcp6_step, tell6_of}
-use Rattle.client_model.specs.IfaceSteps.{IfaceStep, silent, then_step}
-use Rattle.client_model.specs.IfaceTurns.{arp_of_frame, arp_heard, hears_message6, hears_either, hears, input_step}
-use Rattle.client_model.specs.Interfaces.{begins, carried, released, halted, machines_rebind, machines_drop, machines_stop, told_at_stop}
-use Rattle.client_model.specs.LocalSteps.{local_off}
+use Rattle.evidence_words.specs.ClientModel.declared.interfaces.Iface.{Iface}
+use Rattle.evidence_words.specs.ClientModel.Messages.{Said, Arp}
+use Rattle.evidence_words.specs.ClientModel.ClientSettings.{ask_of, settings_of, runs_dhcp4}
+use Rattle.evidence_words.specs.ClientModel.ClientSettings6.{runs_dhcp6}
+use Rattle.evidence_words.specs.ClientModel.Dhcp4Steps.{holds_lease, said_in, dhcp4_step, arrival_at, begin_dhcp4, begin_local, rebind_dhcp4, drop_dhcp4, stop_dhcp4, arms}
+use Rattle.evidence_words.specs.ClientModel.Dhcp6Steps.{contested, said6_in, dhcp6_step, tell6_of}
+use Rattle.evidence_words.specs.ClientModel.IfaceSteps.{IfaceStep, silent, then_step}
+use Rattle.evidence_words.specs.ClientModel.IfaceTurns.{arp_of_frame, arp_heard, hears_message6, hears_either, hears, input_step}
+use Rattle.evidence_words.specs.ClientModel.Interfaces.{begins, carried, released, halted, machines_rebind, machines_drop, machines_stop, told_at_stop}
+use Rattle.evidence_words.specs.ClientModel.LocalSteps.{local_off}
 use Rattle.evidence_words.specs.Entries.{Entry, Offer, offers_on}
 use Rattle.evidence_words.specs.Inputs.{Site, index_at, arp_on, carrier_after, has_carrier, is_stop, is_stopped}
 use Rattle.evidence_words.proofs.Offers.{Offered}

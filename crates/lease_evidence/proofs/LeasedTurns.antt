@@ -4,10 +4,10 @@ use Rattle.std.specs.Prelude.{IfSome, option_to_list}
 use Rattle.machine.specs.Moment.{is_due}
 use Rattle.net_types.specs.Marks.{AreBytes}
 use Rattle.net_types.specs.declared.address.Mac.{Mac}
-use Rattle.ipv4ll.specs.Table.{ll_tick}
+use Rattle.evidence_words.specs.Ipv4ll.Table.{ll_tick}
 use Rattle.net_types.proofs.AllLaws.{all_join}
 use Rattle.lease_text.specs.Bounds.{FitsLease, HasText, IsTyped}
-use Rattle.lease6_text.specs.Bounds.{IsDuid}
+use Rattle.evidence_words.specs.Lease6Text.Bounds.{IsDuid}
 use Rattle.lease_text.specs.Leases.{LeaseContent}
 use Rattle.v4_client.specs.declared.states.State4.{State4}
 use Rattle.v4_client.specs.declared.states.State4.TheVariants.{Off}
@@ -24,20 +24,20 @@ use Rattle.v4_client.specs.Steps.{rests}
 use Rattle.v4_client.specs.Ticks.{tick_row}
 use Rattle.world.specs.declared.wakes.Event.TheVariants.{Quiet}
 use Rattle.settings.specs.Fitting.{FitsManaged}
-use Rattle.client_model.proofs.AskFitting.{ask_fits}
+use Rattle.evidence_words.proofs.ClientModel.AskFitting.{ask_fits}
 use Rattle.settings.specs.declared.interfaces.Managed.{Managed}
 use Rattle.script_model.specs.IfaceSets.{is_in}
-use Rattle.client_model.specs.declared.interfaces.Iface.{Iface}
-use Rattle.client_model.specs.Messages.{Said, Arp}
-use Rattle.client_model.specs.ClientSettings.{ask_of, settings_of}
-use Rattle.client_model.specs.Dhcp4Steps.{dhcp4_step, said_in}
-use Rattle.client_model.specs.Dhcp6Steps.{said6_in}
-use Rattle.client_model.specs.LocalSteps.{tick_local}
-use Rattle.v6_client.specs.Runs.{tick_turned}
-use Rattle.client_model.specs.IfaceSteps.{IfaceStep, index_of, then_step}
-use Rattle.client_model.specs.IfaceTurns.{input_step, iface_turned}
-use Rattle.client_model.specs.KeptLeases.{Beginning}
-use Rattle.client_model.specs.Interfaces.{resting, begins, carrier_at_opening, restarted, unsent_in, ticked}
+use Rattle.evidence_words.specs.ClientModel.declared.interfaces.Iface.{Iface}
+use Rattle.evidence_words.specs.ClientModel.Messages.{Said, Arp}
+use Rattle.evidence_words.specs.ClientModel.ClientSettings.{ask_of, settings_of}
+use Rattle.evidence_words.specs.ClientModel.Dhcp4Steps.{dhcp4_step, said_in}
+use Rattle.evidence_words.specs.ClientModel.Dhcp6Steps.{said6_in}
+use Rattle.evidence_words.specs.ClientModel.LocalSteps.{tick_local}
+use Rattle.evidence_words.specs.V6Client.Runs.{tick_turned}
+use Rattle.evidence_words.specs.ClientModel.IfaceSteps.{IfaceStep, index_of, then_step}
+use Rattle.evidence_words.specs.ClientModel.IfaceTurns.{input_step, iface_turned}
+use Rattle.evidence_words.specs.ClientModel.KeptLeases.{Beginning}
+use Rattle.evidence_words.specs.ClientModel.Interfaces.{resting, begins, carrier_at_opening, restarted, unsent_in, ticked}
 use Rattle.evidence_words.specs.Entries.{Entry, Offer, offers_on}
 use Rattle.evidence_words.specs.Inputs.{Site, index_at, offers_at, has_carrier, is_stopped}
 use Rattle.evidence_words.proofs.Offers.{Offered}

@@ -18,7 +18,7 @@ use Rattle.v4_client.specs.declared.states.State4.TheVariants.{Off, Init, Select
 use Rattle.v4_client.specs.Answers.{is_unexpired}
 use Rattle.v4_client.specs.Clients.{is_held, held_terms, held_of}
 use Rattle.v4_client.specs.Sound.{IsKept}
-use Rattle.client_model.specs.declared.interfaces.Iface.{Iface}
+use Rattle.evidence_words.specs.ClientModel.declared.interfaces.Iface.{Iface}
 use Rattle.evidence_words.specs.Entries.{Entry}
 use Rattle.evidence_words.specs.Inputs.{Site}
 use Rattle.evidence_words.specs.Probed.{TurnWord, AsProbe, Probes, Probed}

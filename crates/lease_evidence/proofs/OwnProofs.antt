@@ -20,11 +20,11 @@ use Rattle.v4_frames.specs.InRange.{FitsMac, FitsSent}
 use Rattle.v4_frames.specs.Ours.{asks_for_answers, goes_to, has_address, has_no_address, is_our_kind, is_our_request, is_ours, is_plain}
 use Rattle.v4_frames.specs.Spelled.{frame_of, if_spelled, seen_in, sent_in}
 use Rattle.v4_frames.proofs.FramesBack.{reads_back, spelled_alone}
-use Rattle.client_model.specs.ClientSettings.{ask_of, codes_of}
-use Rattle.client_model.specs.Fitting.{FitsBeginning}
-use Rattle.client_model.specs.KeptLeases.{Beginning}
-use Rattle.client_model.specs.Messages.{Said, Arp, Dhcp4, Dhcp6}
-use Rattle.client_model.proofs.AskFitting.{ask_fits}
+use Rattle.evidence_words.specs.ClientModel.ClientSettings.{ask_of, codes_of}
+use Rattle.evidence_words.specs.ClientModel.Fitting.{FitsBeginning}
+use Rattle.evidence_words.specs.ClientModel.KeptLeases.{Beginning}
+use Rattle.evidence_words.specs.ClientModel.Messages.{Said, Arp, Dhcp4, Dhcp6}
+use Rattle.evidence_words.proofs.ClientModel.AskFitting.{ask_fits}
 use Rattle.evidence_words.specs.IfaceLives.{IsLived, Met, Opening, site_of}
 use Rattle.evidence_words.specs.Inputs.{Site}
 use Rattle.lease_evidence.specs.HeldLeases.{KeepsTyped}

@@ -37,7 +37,7 @@ use Rattle.arp_acd.specs.declared.detection.Phase.{Phase}
 use Rattle.arp_acd.specs.declared.detection.Phase.TheVariants.{Probing, Announcing, Held, Over}
 use Rattle.arp_acd.proofs.Standing.{mk}
 use Rattle.v4_message.specs.Requests.{AskContent}
-use Rattle.client_model.specs.Messages.{Said}
+use Rattle.evidence_words.specs.ClientModel.Messages.{Said}
 use Rattle.evidence_words.specs.Entries.{Entry}
 use Rattle.evidence_words.specs.Inputs.{Site, index_at, arp_on, tells_contest, contests}
 use Rattle.lease_evidence.specs.LeaseBasis.{tells_end, Calm}

@@ -27,8 +27,8 @@ use Rattle.arp_acd.specs.declared.detection.Phase.TheVariants.{Probing, Announci
 use Rattle.arp_acd.proofs.Standing.{mk, test-le, test-lt}
 use Rattle.v4_message.specs.Requests.{AskContent}
 use Rattle.v4_client.specs.Ticks.{detects, tick_row}
-use Rattle.client_model.specs.Messages.{Said, Arp}
-use Rattle.client_model.specs.Dhcp4Steps.{said_in}
+use Rattle.evidence_words.specs.ClientModel.Messages.{Said, Arp}
+use Rattle.evidence_words.specs.ClientModel.Dhcp4Steps.{said_in}
 use Rattle.evidence_words.specs.Entries.{Entry, Offer}
 use Rattle.evidence_words.specs.Inputs.{Site, offers_at, contests}
 use Rattle.evidence_words.specs.Probed.{TurnWord, probe_taken, Probes, Probed}

@@ -18,22 +18,22 @@ use Rattle.v4_message.specs.Messages.{Message4, message_in}
 use Rattle.v4_options.specs.OptionArea.{Instance, front_of, instances_in, malformed_in}
 use Rattle.v4_options.specs.Overload.{overload_in}
 use Rattle.v4_frames.specs.Heard.{HeardMessage, with_source, message_to, message_for, heard4_in}
-use Rattle.v6_frames.specs.Heard.{HeardMessage6, heard6_in}
+use Rattle.evidence_words.specs.V6Frames.Heard.{HeardMessage6, heard6_in}
 use Rattle.v4_client.specs.Clients.{held_of}
-use Rattle.v6_client.specs.Runs.{tick_turned}
+use Rattle.evidence_words.specs.V6Client.Runs.{tick_turned}
 use Rattle.world.specs.declared.wakes.Event.TheVariants.{Frame, Quiet}
 use Rattle.net_types.specs.declared.address.Mac.{Mac}
 use Rattle.frame_link.specs.declared.arp.ArpView.{ArpView}
-use Rattle.client_model.specs.declared.interfaces.Iface.{Iface}
-use Rattle.client_model.specs.ClientSettings.{ask_of}
-use Rattle.client_model.specs.Clients.{frame_of}
-use Rattle.client_model.specs.IfaceSteps.{IfaceStep, then_step}
-use Rattle.client_model.specs.IfaceTurns.{arp_of_frame, arp_heard, hears_either, iface_turned}
-use Rattle.client_model.specs.Interfaces.{ticked}
+use Rattle.evidence_words.specs.ClientModel.declared.interfaces.Iface.{Iface}
+use Rattle.evidence_words.specs.ClientModel.ClientSettings.{ask_of}
+use Rattle.evidence_words.specs.ClientModel.Clients.{frame_of}
+use Rattle.evidence_words.specs.ClientModel.IfaceSteps.{IfaceStep, then_step}
+use Rattle.evidence_words.specs.ClientModel.IfaceTurns.{arp_of_frame, arp_heard, hears_either, iface_turned}
+use Rattle.evidence_words.specs.ClientModel.Interfaces.{ticked}
 use Rattle.evidence_words.specs.Entries.{Offer}
 use Rattle.evidence_words.specs.Inputs.{Site}
 use Rattle.evidence_words.specs.IfaceLives.{site_of, iface_after, IsLived}
-use Rattle.client_model.specs.Fitting.{FitsBeginning}
+use Rattle.evidence_words.specs.ClientModel.Fitting.{FitsBeginning}
 use Rattle.lease_evidence.specs.PlainIface.{client_mac}
 use Rattle.lease_evidence.specs.SevenTurns.{server_mac, server, granted, duid, interface, reply_text, options_text, reply_frame, requests, discovers, beginning, opening, met, probes, announces, seven_turns, lease}
 

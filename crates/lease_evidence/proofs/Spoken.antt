@@ -22,18 +22,18 @@ use Rattle.v4_frames.specs.Ours.{is_ours}
 use Rattle.v4_frames.specs.Spelled.{sent_in}
 use Rattle.v4_frames.proofs.FramesBack.{reads_back}
 use Rattle.v4_frames.proofs.OtherKinds.{others_spell_nothing}
-use Rattle.v6_client.specs.Moves.{OutContent}
-use Rattle.v6_client.specs.Saying.{SpokenContent}
-use Rattle.v6_frames.specs.Spelled.{Sent6, frame6_of}
+use Rattle.evidence_words.specs.V6Client.Moves.{OutContent}
+use Rattle.evidence_words.specs.V6Client.Saying.{SpokenContent}
+use Rattle.evidence_words.specs.V6Frames.Spelled.{Sent6, frame6_of}
 use Rattle.v4_client.specs.declared.states.Say4.{Say4}
 use Rattle.v4_client.specs.declared.states.Step4.{Step4}
 use Rattle.v4_client.specs.Saying.{sent_of}
-use Rattle.client_model.specs.Messages.{Said, Dhcp4, Arp, Dhcp6}
-use Rattle.client_model.specs.ClientSettings.{ask_of}
-use Rattle.client_model.specs.Clients.{spelled}
-use Rattle.client_model.specs.Dhcp4Steps.{said_in}
-use Rattle.client_model.specs.Dhcp6Steps.{said6_in, sent_by}
-use Rattle.client_model.specs.declared.interfaces.Iface.{Iface}
+use Rattle.evidence_words.specs.ClientModel.Messages.{Said, Dhcp4, Arp, Dhcp6}
+use Rattle.evidence_words.specs.ClientModel.ClientSettings.{ask_of}
+use Rattle.evidence_words.specs.ClientModel.Clients.{spelled}
+use Rattle.evidence_words.specs.ClientModel.Dhcp4Steps.{said_in}
+use Rattle.evidence_words.specs.ClientModel.Dhcp6Steps.{said6_in, sent_by}
+use Rattle.evidence_words.specs.ClientModel.declared.interfaces.Iface.{Iface}
 use Rattle.evidence_words.specs.Entries.{Offer}
 use Rattle.evidence_words.specs.Inputs.{Site}
 use Rattle.evidence_words.proofs.Offers.{Offered}

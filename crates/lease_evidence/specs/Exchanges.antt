@@ -6,7 +6,7 @@ use Rattle.v4_message.specs.declared.writing.Kind4.TheVariants.{Discover, Reques
 use Rattle.v4_message.specs.declared.writing.Said4.{Said4}
 use Rattle.v4_frames.specs.declared.sent.Sent4.{Sent4}
 use Rattle.v4_client.specs.declared.states.Exchange4.{Exchange4}
-use Rattle.client_model.specs.ClientSettings.{ask_of}
+use Rattle.evidence_words.specs.ClientModel.ClientSettings.{ask_of}
 use Rattle.evidence_words.specs.Entries.{Entry, Offer}
 use Rattle.evidence_words.specs.Inputs.{Site, offers_at}
 use Rattle.lease_evidence.specs.OwnMessages.{own_in, speaker_of}

@@ -9,9 +9,9 @@ use Rattle.v4_client.specs.Clients.{held_of}
 use Rattle.world.specs.declared.rows.HostRow.{HostRow}
 use Rattle.settings.specs.declared.interfaces.Managed.{Managed}
 use Rattle.script_model.specs.IfaceSets.{is_up}
-use Rattle.client_model.specs.Fitting.{FitsBeginning}
-use Rattle.client_model.specs.KeptLeases.{Beginning}
-use Rattle.client_model.specs.WantedRows.{outlet_of, static_rows, static6_rows, iface_rows}
+use Rattle.evidence_words.specs.ClientModel.Fitting.{FitsBeginning}
+use Rattle.evidence_words.specs.ClientModel.KeptLeases.{Beginning}
+use Rattle.evidence_words.specs.ClientModel.WantedRows.{outlet_of, static_rows, static6_rows, iface_rows}
 use Rattle.evidence_words.specs.Entries.{Entry}
 use Rattle.evidence_words.specs.IfaceLives.{Opening, Met, site_of, shown, opens, iface_after, IsLived, now_in}
 use Rattle.evidence_words.specs.Inputs.{Site}

@@ -12,12 +12,12 @@ use Rattle.v4_frames.specs.declared.speaker.TheConstants.{BROADCAST_FLAG}
 use Rattle.v4_frames.specs.Spelled as dhcp4
 use Rattle.v4_client.specs.Saying.{discover, sent_of}
 use Rattle.settings.specs.declared.interfaces.Managed.{Managed}
-use Rattle.client_model.specs.ClientSettings.{ask_of, site_of}
-use Rattle.client_model.specs.Clients.{frame_of}
-use Rattle.client_model.specs.Fitting.{FitsBeginning}
-use Rattle.client_model.specs.IfaceTurns.{iface_turned}
-use Rattle.client_model.specs.KeptLeases.{Beginning}
-use Rattle.client_model.specs.Messages.{Said, Arp, Dhcp4, Dhcp6}
+use Rattle.evidence_words.specs.ClientModel.ClientSettings.{ask_of, site_of}
+use Rattle.evidence_words.specs.ClientModel.Clients.{frame_of}
+use Rattle.evidence_words.specs.ClientModel.Fitting.{FitsBeginning}
+use Rattle.evidence_words.specs.ClientModel.IfaceTurns.{iface_turned}
+use Rattle.evidence_words.specs.ClientModel.KeptLeases.{Beginning}
+use Rattle.evidence_words.specs.ClientModel.Messages.{Said, Arp, Dhcp4, Dhcp6}
 use Rattle.evidence_words.specs.Entries.{Offer}
 use Rattle.evidence_words.specs.IfaceLives.{IsLived, Met, Opening, iface_after, opens}
 use Rattle.evidence_words.specs.Inputs.{Site}

@@ -9,8 +9,8 @@ use Rattle.v4_client.specs.declared.states.Exchange4.{Exchange4}
 use Rattle.v4_client.specs.Answers.{reply_in}
 use Rattle.v4_client.specs.Messages.{Arrival}
 use Rattle.v4_client.specs.Settings.{SettingsContent}
-use Rattle.client_model.specs.ClientSettings.{settings_of}
-use Rattle.client_model.specs.Dhcp4Steps.{arrival_at}
+use Rattle.evidence_words.specs.ClientModel.ClientSettings.{settings_of}
+use Rattle.evidence_words.specs.ClientModel.Dhcp4Steps.{arrival_at}
 use Rattle.evidence_words.specs.Entries.{Entry}
 use Rattle.evidence_words.specs.Inputs.{Site, index_at}
 

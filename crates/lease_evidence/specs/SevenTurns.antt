@@ -5,18 +5,18 @@ use Rattle.net_types.specs.declared.address.Mac.{Mac}
 use Rattle.udp_frame.specs.Udp4Frames.{udp4_frame_text}
 use Rattle.v4_frames.specs.declared.sent.TheConstants.{CLIENT_PORT, SERVER_PORT}
 use Rattle.lease_text.specs.Leases.{LeaseContent}
-use Rattle.duid_text.specs.DuidTexts.{link_layer_duid}
+use Rattle.evidence_words.specs.DuidText.DuidTexts.{link_layer_duid}
 use Rattle.world.specs.declared.wakes.Event.{Event}
 use Rattle.world.specs.declared.wakes.Event.TheVariants.{Frame, Quiet}
 use Rattle.settings.specs.declared.interfaces.Managed.{Managed}
 use Rattle.settings.specs.Flags.{no_flags}
 use Rattle.settings.specs.Times.{usual_times}
 use Rattle.v4_client.specs.Saying.{discover, request}
-use Rattle.client_model.specs.Messages.{Said, Dhcp4, Arp}
+use Rattle.evidence_words.specs.ClientModel.Messages.{Said, Dhcp4, Arp}
 use Rattle.arp_acd.specs.declared.detection.ArpSay.TheVariants.{Probe, Announce}
-use Rattle.client_model.specs.ClientSettings.{ask_of, site_of}
-use Rattle.client_model.specs.Clients.{frame_of}
-use Rattle.client_model.specs.KeptLeases.{Beginning}
+use Rattle.evidence_words.specs.ClientModel.ClientSettings.{ask_of, site_of}
+use Rattle.evidence_words.specs.ClientModel.Clients.{frame_of}
+use Rattle.evidence_words.specs.ClientModel.KeptLeases.{Beginning}
 use Rattle.evidence_words.specs.Entries.{Offer}
 use Rattle.evidence_words.specs.IfaceLives.{Opening, Met}
 use Rattle.lease_evidence.specs.PlainIface.{client_mac, plain_eth0}

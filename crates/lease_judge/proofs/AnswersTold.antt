@@ -1,10 +1,10 @@
 -- What the interface says and hears in a turn is told by what the code holds.
 use Rattle.std.proofs.Common.{◌≡◌, List, Option, Some, None, refl, ap, ◌∙◌}
 use Rattle.v4_client.specs.Settings.{SettingsContent}
-use Rattle.client_model.specs.ClientSettings.{settings_of}
+use Rattle.evidence_words.specs.ClientModel.ClientSettings.{settings_of}
 use Rattle.evidence_words.specs.Entries as told
 use Rattle.evidence_words.specs.Inputs as told_of
-use Rattle.lease_evidence.specs.Exchanges.{Numbered, Seen, messages_at, seen_in}
+use Rattle.own_frames4.specs.LeaseEvidence.Exchanges.{Numbered, Seen, messages_at, seen_in}
 use Rattle.audit_words.specs.Shown.{entry_shown, site_shown}
 use Rattle.audit_words.specs.declared.shown.Entry.{Entry}
 use Rattle.audit_words.specs.declared.shown.Site.{Site}

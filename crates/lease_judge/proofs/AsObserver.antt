@@ -7,10 +7,10 @@ use Rattle.v4_client.specs.declared.states.Answer4.{Answer4}
 use Rattle.v4_client.specs.declared.states.Answer4.TheVariants as answer
 use Rattle.evidence_words.specs.Entries.{Entry}
 use Rattle.evidence_words.specs.Inputs.{Site, index_at, has_carrier, carrier_after}
-use Rattle.lease_evidence.specs.Exchanges.{Numbered, Seen, messages_at, show, seen_in}
-use Rattle.lease_evidence.specs.Replies.{reply_at}
-use Rattle.lease_evidence.proofs.Observer as observer
-use Rattle.lease_evidence.proofs.Observer.{Grant, Kept, kept, stays_on, if_calm, answered_in, ended_at, kept_in}
+use Rattle.own_frames4.specs.LeaseEvidence.Exchanges.{Numbered, Seen, messages_at, show, seen_in}
+use Rattle.own_frames4.specs.LeaseEvidence.Replies.{reply_at}
+use Rattle.own_frames4.proofs.LeaseEvidence.Observer as observer
+use Rattle.own_frames4.proofs.LeaseEvidence.Observer.{Grant, Kept, kept, stays_on, if_calm, answered_in, ended_at, kept_in}
 use Rattle.lease_judge.specs.Judge.{Granted, Judge, stays, sees, told, hears_in, hears, turned, judge_in}
 
 abbrev pub as_granted : Option Grant → Option Granted

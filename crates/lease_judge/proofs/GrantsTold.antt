@@ -10,11 +10,11 @@ use Rattle.v4_client.specs.declared.states.Answer4.{Answer4}
 use Rattle.v4_client.specs.declared.states.Answer4.TheVariants as answer
 use Rattle.evidence_words.specs.Entries.{Entry}
 use Rattle.evidence_words.specs.Inputs.{Site, index_at, has_carrier, GoesOn}
-use Rattle.lease_evidence.specs.Exchanges.{Numbered, messages_at, seen_in}
-use Rattle.lease_evidence.specs.LeaseBasis.{Calm, GrantsNothing, FirstAck, CalmFor}
-use Rattle.lease_evidence.specs.Replies.{reply_at}
-use Rattle.lease_evidence.proofs.Observed.{observes}
-use Rattle.lease_evidence.proofs.Observer.{Grant, Kept, Latest, Opens, kept, stays_on, if_calm, answered_in, hears, ended_at, stays_at, kept_in, shown_all}
+use Rattle.own_frames4.specs.LeaseEvidence.Exchanges.{Numbered, messages_at, seen_in}
+use Rattle.own_frames4.specs.LeaseEvidence.LeaseBasis.{Calm, GrantsNothing, FirstAck, CalmFor}
+use Rattle.own_frames4.specs.LeaseEvidence.Replies.{reply_at}
+use Rattle.own_frames4.proofs.LeaseEvidence.Observed.{observes}
+use Rattle.own_frames4.proofs.LeaseEvidence.Observer.{Grant, Kept, Latest, Opens, kept, stays_on, if_calm, answered_in, hears, ended_at, stays_at, kept_in, shown_all}
 
 -- ---- calm turns are known as such
 

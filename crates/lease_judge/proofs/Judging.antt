@@ -3,9 +3,9 @@ use Rattle.std.proofs.Common.{◌≡◌, ℕ, List, Option, Some, None, refl, sy
 use Rattle.net_types.specs.declared.address.Net.{Net}
 use Rattle.evidence_words.specs.Entries.{Entry}
 use Rattle.evidence_words.specs.Inputs.{Site}
-use Rattle.lease_evidence.specs.LeaseBasis.{LeaseBasis}
-use Rattle.lease_evidence.proofs.Observed.{observes}
-use Rattle.lease_evidence.proofs.Observer.{Grant, kept_in}
+use Rattle.own_frames4.specs.LeaseEvidence.LeaseBasis.{LeaseBasis}
+use Rattle.own_frames4.proofs.LeaseEvidence.Observed.{observes}
+use Rattle.own_frames4.proofs.LeaseEvidence.Observer.{Grant, kept_in}
 use Rattle.lease_judge.specs.Judge.{Granted, judge_in}
 use Rattle.lease_judge.specs.Laws.{IsGranted, GrantsAreJudged, IsJudged, BasesAreJudged}
 use Rattle.lease_judge.proofs.AsObserver.{as_granted, granted_same}

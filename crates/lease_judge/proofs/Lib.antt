@@ -9,3 +9,4 @@ mod ProbesHeld
 mod AnswersTold
 mod NumbersTold
 mod SettledProbes
+pub use Rattle.local_judge.proofs as LocalJudge

@@ -5,8 +5,8 @@ use Rattle.v4_frames.specs.declared.sent.Sent4.{Sent4}
 use Rattle.evidence_words.specs.Entries as told
 use Rattle.evidence_words.specs.Inputs as told_of
 use Rattle.evidence_words.specs.Inputs.{index_at}
-use Rattle.lease_evidence.specs.Exchanges.{Seen, messages_at, seen_in}
-use Rattle.lease_evidence.specs.LeaseBasis.{tells_end}
+use Rattle.own_frames4.specs.LeaseEvidence.Exchanges.{Seen, messages_at, seen_in}
+use Rattle.own_frames4.specs.LeaseEvidence.LeaseBasis.{tells_end}
 use Rattle.lease_judge.specs.Judge.{Judge, is_calm, stays, judge_in}
 use Rattle.lease_judge.specs.Numbers.{granted_number, open_number}
 use Rattle.lease_judge.specs.ProbedTurns.{calm_in}

@@ -8,10 +8,10 @@ use Rattle.world.specs.declared.wakes.Event.TheVariants.{Frame, Carrier, Duplica
 use Rattle.evidence_words.specs.Entries.{Entry}
 use Rattle.evidence_words.specs.Inputs.{Site, index_at, has_carrier}
 use Rattle.evidence_words.specs.Probed.{TurnWord, Probes, EachAfter, Probed}
-use Rattle.local_evidence.specs.LinkLocalBasis.{Anything}
-use Rattle.lease_evidence.specs.Exchanges.{messages_at}
-use Rattle.lease_evidence.specs.LeaseBasis.{tells_end, Calm}
-use Rattle.probe_table.specs.ProbeTimes.{TurnTest, is_past, times_in}
+use Rattle.local_judge.specs.LocalEvidence.LinkLocalBasis.{Anything}
+use Rattle.own_frames4.specs.LeaseEvidence.Exchanges.{messages_at}
+use Rattle.own_frames4.specs.LeaseEvidence.LeaseBasis.{tells_end, Calm}
+use Rattle.local_judge.specs.ProbeTable.ProbeTimes.{TurnTest, is_past, times_in}
 use Rattle.local_judge.specs.Choices as local
 use Rattle.local_judge.proofs.Calmness.{Tells, calm_tells}
 use Rattle.local_judge.proofs.ProbesTold.{three_told}

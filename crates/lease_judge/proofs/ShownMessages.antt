@@ -2,8 +2,8 @@
 use Rattle.std.proofs.Common.{◌≡◌, ℕ, ◌+◌, ◌<◌, List, [], ◌∷◌, ◌++◌, length, take, get_or, Option, refl, sym, ap, ◌∙◌}
 use Rattle.std.proofs.lemmas.List.{take_more}
 use Rattle.v4_frames.specs.declared.sent.Sent4.{Sent4}
-use Rattle.lease_evidence.specs.Exchanges as exchanges
-use Rattle.lease_evidence.specs.Exchanges.{show, shows}
+use Rattle.own_frames4.specs.LeaseEvidence.Exchanges as exchanges
+use Rattle.own_frames4.specs.LeaseEvidence.Exchanges.{show, shows}
 use Rattle.lease_judge.specs.Watched.{HasMoment, seen_shown}
 use Rattle.lease_judge.specs.declared.watch.Seen.{Seen}
 

@@ -7,13 +7,13 @@ use Rattle.net_types.specs.declared.address.Net4.{Net4}
 use Rattle.v4_message.specs.Requests.{AskFits}
 use Rattle.v4_frames.specs.declared.sent.Sent4.{Sent4}
 use Rattle.v4_client.specs.Settings.{SettingsContent}
-use Rattle.client_model.specs.ClientSettings.{settings_of}
-use Rattle.client_model.proofs.AskFitting.{ask_fits}
+use Rattle.evidence_words.specs.ClientModel.ClientSettings.{settings_of}
+use Rattle.evidence_words.proofs.ClientModel.AskFitting.{ask_fits}
 use Rattle.evidence_words.specs.Entries as told
 use Rattle.evidence_words.specs.Inputs as told_of
 use Rattle.evidence_words.specs.Inputs.{index_at}
-use Rattle.lease_evidence.specs.Exchanges as exchanges
-use Rattle.lease_evidence.specs.LeaseBasis.{tells_end}
+use Rattle.own_frames4.specs.LeaseEvidence.Exchanges as exchanges
+use Rattle.own_frames4.specs.LeaseEvidence.LeaseBasis.{tells_end}
 use Rattle.audit_words.specs.Shown.{FitsSite, entry_shown, site_shown}
 use Rattle.audit_words.specs.declared.shown.Entry.{Entry}
 use Rattle.audit_words.specs.declared.shown.Site.{Site}

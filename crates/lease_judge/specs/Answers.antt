@@ -5,8 +5,8 @@ use Rattle.v4_client.specs.declared.states.Answer4.{Answer4}
 use Rattle.v4_client.specs.declared.states.Answer4.TheVariants.{Nothing}
 use Rattle.evidence_words.specs.Entries.{Entry}
 use Rattle.evidence_words.specs.Inputs.{Site}
-use Rattle.lease_evidence.specs.Exchanges.{Numbered}
-use Rattle.lease_evidence.specs.Replies.{arrival_in, reply_at, reply_by}
+use Rattle.own_frames4.specs.LeaseEvidence.Exchanges.{Numbered}
+use Rattle.own_frames4.specs.LeaseEvidence.Replies.{arrival_in, reply_at, reply_by}
 
 -- an ACK with its terms, or a NAK, where an exchange is open
 abbrev pub answer_in : Site → Entry → Option Numbered → Answer4

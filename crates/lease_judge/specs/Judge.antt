@@ -9,9 +9,9 @@ use Rattle.v4_client.specs.declared.states.Answer4.{Answer4}
 use Rattle.v4_client.specs.declared.states.Answer4.TheVariants.{Nothing, Offer, Ack, Nak}
 use Rattle.evidence_words.specs.Entries.{Entry}
 use Rattle.evidence_words.specs.Inputs.{Site, index_at, carrier_after}
-use Rattle.lease_evidence.specs.Exchanges.{Numbered, Seen, messages_at, show}
-use Rattle.lease_evidence.specs.LeaseBasis.{tells_end}
-use Rattle.lease_evidence.specs.Replies.{reply_at}
+use Rattle.own_frames4.specs.LeaseEvidence.Exchanges.{Numbered, Seen, messages_at, show}
+use Rattle.own_frames4.specs.LeaseEvidence.LeaseBasis.{tells_end}
+use Rattle.own_frames4.specs.LeaseEvidence.Replies.{reply_at}
 
 -- an exchange that was granted, and the terms of its first acceptable ACK
 pub record Granted : Type 0 where

@@ -8,7 +8,7 @@ use Rattle.v4_client.specs.Answers.{is_unexpired}
 use Rattle.evidence_words.specs.Entries.{Entry}
 use Rattle.evidence_words.specs.Inputs.{Site}
 use Rattle.evidence_words.specs.Probed.{Probed}
-use Rattle.lease_evidence.specs.LeaseBasis.{Calm, CalmFor, FirstAck, LeaseBasis}
+use Rattle.own_frames4.specs.LeaseEvidence.LeaseBasis.{Calm, CalmFor, FirstAck, LeaseBasis}
 use Rattle.lease_judge.specs.Judge.{Granted, judge_in}
 use Rattle.lease_judge.specs.Leased.{is_leased}
 use Rattle.lease_judge.specs.ProbedTurns.{calm_in, probed_in}

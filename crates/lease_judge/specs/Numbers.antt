@@ -1,7 +1,7 @@
 -- By which number an exchange is known.
 use Rattle.std.specs.Prelude.{ℕ, Option}
 use Rattle.std.specs.Option.{option_map}
-use Rattle.lease_evidence.specs.Exchanges.{Numbered, Seen}
+use Rattle.own_frames4.specs.LeaseEvidence.Exchanges.{Numbered, Seen}
 use Rattle.lease_judge.specs.Judge.{Granted}
 
 abbrev pub number_of : Numbered → ℕ

@@ -2,7 +2,7 @@
 use Rattle.std.specs.Prelude.{◌≡◌, List}
 use Rattle.v4_message.specs.Requests.{AskFits}
 use Rattle.v4_client.specs.Settings.{SettingsContent}
-use Rattle.client_model.specs.ClientSettings.{settings_of}
+use Rattle.evidence_words.specs.ClientModel.ClientSettings.{settings_of}
 use Rattle.evidence_words.specs.Entries.{Entry}
 use Rattle.evidence_words.specs.Inputs.{Site}
 use Rattle.lease_judge.specs.Judge.{judge_in}

@@ -9,10 +9,10 @@ use Rattle.world.specs.declared.wakes.Event.{Event}
 use Rattle.evidence_words.specs.Entries as told
 use Rattle.evidence_words.specs.Inputs as told_of
 use Rattle.evidence_words.specs.Inputs.{carrier_after}
-use Rattle.lease_evidence.specs.Exchanges as exchanges
-use Rattle.lease_evidence.specs.Exchanges.{show}
-use Rattle.lease_evidence.specs.LeaseBasis.{tells_end}
-use Rattle.lease_evidence.specs.Replies.{arrival_in, reply_by}
+use Rattle.own_frames4.specs.LeaseEvidence.Exchanges as exchanges
+use Rattle.own_frames4.specs.LeaseEvidence.Exchanges.{show}
+use Rattle.own_frames4.specs.LeaseEvidence.LeaseBasis.{tells_end}
+use Rattle.own_frames4.specs.LeaseEvidence.Replies.{arrival_in, reply_by}
 use Rattle.lease_judge.specs.Judge as judge
 use Rattle.lease_judge.specs.Judge.{Judge, stays, told}
 use Rattle.lease_judge.specs.declared.watch.Granted.{Granted}

@@ -3,13 +3,13 @@
 ghost use Rattle.std.specs.Prelude.{◌≡◌, true, ◌++◌, [], filter, IfOk};
 ghost use Rattle.std.specs.List.{list_all};
 ghost use Rattle.net_types.specs.declared.address.Ip4.{Ip4};
-ghost use Rattle.probe_table.specs.ProbeTimes.{no_probes};
-ghost use Rattle.probe_table.specs.Table.{times_of};
+ghost use Rattle.local_judge.specs.ProbeTable.ProbeTimes.{no_probes};
+ghost use Rattle.local_judge.specs.ProbeTable.Table.{times_of};
 ghost use Rattle.lease_judge.specs.Probes.{AreFresh, AreSettled, IsTurned, is_fresh, probed_of};
 
 use audit_words::{Entry, Site};
+use local_judge::{ProbeTable, is_past};
 use net_types::{Ip4, NoMemory};
-use probe_table::{ProbeTable, is_past};
 use std::alloc::{AllocError, Global};
 
 /// The least time from the third probe of an address to the turn that makes it a probed one (RFC 5227, section 1.1).

@@ -4,16 +4,16 @@
 ghost use Rattle.std.specs.Prelude.{◌≡◌, ◌&&◌, not, IfOk};
 ghost use Rattle.std.specs.List.{list_any};
 ghost use Rattle.net_types.specs.Moments.{IsMoment};
-ghost use Rattle.lease_evidence.specs.Exchanges.{exchange_of, opens, requests, says, show, shows};
-ghost use Rattle.lease_evidence.specs.LeaseBasis.{ends_lease, tells_end};
+ghost use Rattle.own_frames4.specs.LeaseEvidence.Exchanges.{exchange_of, opens, requests, says, show, shows};
+ghost use Rattle.own_frames4.specs.LeaseEvidence.LeaseBasis.{ends_lease, tells_end};
 ghost use Rattle.lease_judge.specs.Judge.{stays, told};
 ghost use Rattle.lease_judge.specs.Leased.{grants, is_same};
 ghost use Rattle.lease_judge.specs.Numbers.{granted_number, open_number};
 ghost use Rattle.lease_judge.specs.Watched.{HasMoment, HasMoments, first_of, judge_shown, numbered_shown, seen_shown, sees_by};
 
 use lease_text::Terms4;
+use local_judge::carrier_after;
 use net_types::{Net4, NoMemory};
-use probe_table::carrier_after;
 use v4_client::{Answer4, Exchange4, is_unexpired};
 use v4_frames::Sent4;
 use v4_message::{Kind4, Said4};

@@ -21,9 +21,9 @@ use Rattle.net_types.proofs.ChoiceLaws.{words_apart}
 use Rattle.net_types.proofs.HexLaws.{cons_bytes, no_bytes}
 use Rattle.net_types.proofs.MarkLaws.{lacks-append}
 use Rattle.net_types.proofs.ReadsLaws.{mapped, some_same, strip_sound, strip_whole}
-use Rattle.field_laws.specs.Fields.{Field, IsField}
-use Rattle.field_laws.proofs.FieldLaws.{worded_is}
-use Rattle.field_laws.proofs.KindLaws.{ip4_is, mac_is, name_is, no_field_is}
+use Rattle.line_grammar.specs.FieldLaws.Fields.{Field, IsField}
+use Rattle.line_grammar.proofs.FieldLaws.FieldLaws.{worded_is}
+use Rattle.line_grammar.proofs.FieldLaws.KindLaws.{ip4_is, mac_is, name_is, no_field_is}
 use Rattle.lease_text.specs.declared.lease.Origin.{Origin}
 use Rattle.lease_text.specs.declared.lease.Terms4.{Terms4}
 use Rattle.lease_text.specs.declared.lease.TheConstants.{INFINITE_LEASE}

@@ -19,6 +19,7 @@ pub use lease::{
     INFINITE_LEASE, LONGEST_PREFIX, Lease4, Origin, Terms4, VALUE_LIMIT, Value, copied_values,
     is_host_address,
 };
+pub use line_grammar::{AppendField, Below, append_line, read_line};
 pub use printing::{append_values, print4};
 pub use reading::{LeaseFault, read_lease4};
 pub use typed::lease_is_typed;

@@ -31,7 +31,7 @@ use Rattle.evidence.specs.Laws.{AreNumbered, AreSharedWithOthers, site_of}
 use Rattle.evidence.proofs.HostRests.{is_opening, opening_rests, turns_rest}
 use Rattle.evidence.proofs.Items.{items_have_basis}
 use Rattle.evidence.proofs.Leasing.{leases_based}
-use Rattle.lease_evidence.proofs.Joining.{LeaseRelation}
+use Rattle.lease6_judge.proofs.LeaseEvidence.Joining.{LeaseRelation}
 use Rattle.evidence_words.specs.Entries.{Entry, entry_of, shown_after, shown_of}
 use Rattle.evidence_words.specs.Inputs.{Site}
 use Rattle.evidence_words.proofs.Made.{opening_shows}

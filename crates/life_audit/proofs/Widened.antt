@@ -9,7 +9,7 @@ use Rattle.evidence.specs.Laws.{BasisWith, LeasedBasis6, RestsWith}
 use Rattle.evidence_words.specs.Entries.{Entry}
 use Rattle.evidence_words.specs.IfaceLives.{now_in}
 use Rattle.evidence_words.specs.Inputs.{Site}
-use Rattle.lease6_evidence.specs.ItemBasis.{ItemBasis}
+use Rattle.lease6_judge.specs.Lease6Evidence.ItemBasis.{ItemBasis}
 use Rattle.lease6_judge.specs.HeardBasis.{HeardBasis}
 use Rattle.lease6_judge.specs.HeardLaws.{HeldAddressesWereHeard, HeldWasHeard}
 use Rattle.life_audit.specs.Laws.{HeardAddress, HeardBasisIn, HeldBasis, LinesRestOnEvidence, meets_told}

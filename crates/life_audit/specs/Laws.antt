@@ -16,7 +16,7 @@ use Rattle.turn_model.specs.Lives.{Met, OpeningMet}
 use Rattle.turn_model.specs.HostInLife.{running_opened}
 use Rattle.evidence.specs.HeldAddresses.{mets_of}
 use Rattle.evidence.specs.Laws.{AreNumbered, AreSharedWithOthers, HasBasisIn, LeasedBasis6}
-use Rattle.lease6_evidence.specs.ItemBasis.{ItemBasis}
+use Rattle.lease6_judge.specs.Lease6Evidence.ItemBasis.{ItemBasis}
 use Rattle.lease6_judge.specs.HeardBasis.{HeardAddressBasis, HeardBasis}
 use Rattle.evidence_words.specs.Entries.{Entry}
 use Rattle.evidence_words.specs.IfaceLives.{now_in}

@@ -1,1 +1,2 @@
 mod Fronts
+pub use Rattle.field_laws.proofs as FieldLaws

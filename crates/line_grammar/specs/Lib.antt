@@ -1,0 +1,1 @@
+pub use Rattle.field_laws.specs as FieldLaws

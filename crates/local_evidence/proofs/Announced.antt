@@ -18,13 +18,13 @@ use Rattle.udp_frame.specs.Udp4Frames.{ip4_kind, said4, udp4_text, udp4_frame_te
 use Rattle.udp_frame.specs.Udp6Frames.{udp6_frame_text}
 use Rattle.v4_message.specs.Requests.{AskContent, message_text, padded}
 use Rattle.v4_frames.specs.declared.sent.TheConstants.{CLIENT_PORT, SERVER_PORT}
-use Rattle.v6_frames.specs.Spelled.{Sent6, frame6_of}
+use Rattle.evidence_words.specs.V6Frames.Spelled.{Sent6, frame6_of}
 use Rattle.lease_text.specs.Leases.{first_byte, is_host_address}
 use Rattle.v4_client.specs.declared.states.Say4.{Say4}
 use Rattle.arp_acd.specs.declared.detection.ArpSay.TheVariants.{Probe, Announce}
-use Rattle.client_model.specs.Messages.{Said, Arp, Dhcp4, Dhcp6}
-use Rattle.client_model.specs.ClientSettings.{ask_of}
-use Rattle.client_model.specs.Clients.{frame_of}
+use Rattle.evidence_words.specs.ClientModel.Messages.{Said, Arp, Dhcp4, Dhcp6}
+use Rattle.evidence_words.specs.ClientModel.ClientSettings.{ask_of}
+use Rattle.evidence_words.specs.ClientModel.Clients.{frame_of}
 use Rattle.evidence_words.specs.Entries.{Offer}
 use Rattle.evidence_words.specs.Inputs.{Site}
 use Rattle.local_evidence.specs.LinkLocalBasis.{AnnouncesNoOther}

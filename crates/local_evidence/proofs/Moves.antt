@@ -33,8 +33,8 @@ use Rattle.v4_client.specs.Moments.{doubled, expiry, rebinding_at, renewal_at, s
 use Rattle.v4_client.specs.Sound.{FitsState}
 use Rattle.v4_client.specs.Steps.{binds, bound_news, discovers, expires, new_exchange, rebinding, rebooting, renewing, requesting, rests, standing_news, to_init}
 use Rattle.v4_client.specs.Ticks.{detects, falls, is_longest, tick_row}
-use Rattle.settings.specs.declared.interfaces.IfConf.{IfConf}
-use Rattle.client_model.specs.Dhcp4Steps.{followed, said_in}
+use Rattle.v4_client.specs.IfaceSettings.declared.interfaces.IfConf.{IfConf}
+use Rattle.evidence_words.specs.ClientModel.Dhcp4Steps.{followed, said_in}
 use Rattle.local_evidence.proofs.Announced.{AnnouncesNone}
 
 -- link-local is off while a lease is bound; beside one on which the client stands it may go on

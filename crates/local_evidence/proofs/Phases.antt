@@ -9,8 +9,8 @@ use Rattle.arp_acd.specs.declared.detection.Phase.{Phase}
 use Rattle.arp_acd.specs.declared.detection.Phase.TheVariants.{Probing, Announcing, Held, Over}
 use Rattle.ipv4ll.specs.Choice.{IsChoice}
 use Rattle.evidence_words.specs.Entries.{Entry}
-use Rattle.client_model.specs.Messages.{Said}
-use Rattle.client_model.specs.ClientSettings.{ask_of}
+use Rattle.evidence_words.specs.ClientModel.Messages.{Said}
+use Rattle.evidence_words.specs.ClientModel.ClientSettings.{ask_of}
 use Rattle.evidence_words.specs.Inputs.{Site, offers_at, uses, contests}
 use Rattle.evidence_words.specs.Probed.{TurnWord, Probes, Probed}
 use Rattle.local_evidence.specs.LinkLocalBasis.{IsAlone, UsesApart}

@@ -21,8 +21,8 @@ use Rattle.ipv4ll.specs.declared.link_local.LlNews.TheVariants.{Nothing}
 use Rattle.ipv4ll.specs.Choice.{IsChoice}
 use Rattle.ipv4ll.specs.Table.{chooses, LlStep, moves, tells, choosing, after_conflict, one_more, said_row, tick_row, ll_tick, ll_hears, ll_restarts}
 use Rattle.ipv4ll.proofs.Chosen.{choice_in_range}
-use Rattle.client_model.specs.ClientSettings.{ask_of}
-use Rattle.client_model.specs.Messages.{Said, Arp}
+use Rattle.evidence_words.specs.ClientModel.ClientSettings.{ask_of}
+use Rattle.evidence_words.specs.ClientModel.Messages.{Said, Arp}
 use Rattle.evidence_words.specs.Entries.{Entry}
 use Rattle.evidence_words.specs.Probed.{TurnWord}
 use Rattle.evidence_words.specs.Inputs.{Site, index_at, offers_at, arp_on, tells_use, tells_contest}

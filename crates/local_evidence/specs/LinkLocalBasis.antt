@@ -7,7 +7,7 @@ use Rattle.net_types.specs.declared.address.Net.TheVariants.{V4}
 use Rattle.net_types.specs.AddressText.{FitsIp4}
 use Rattle.frame_link.specs.Packets.{announcement_text}
 use Rattle.ipv4ll.specs.Choice.{IsChoice}
-use Rattle.client_model.specs.WantedRows.{local_net}
+use Rattle.evidence_words.specs.ClientModel.WantedRows.{local_net}
 use Rattle.evidence_words.specs.Entries.{Entry, Offer}
 use Rattle.evidence_words.specs.Inputs.{Site, index_at, offers_at, uses, GoesOn, StaysOn}
 use Rattle.evidence_words.specs.Probed.{TurnWord, Probed, probes_taken}

@@ -9,7 +9,7 @@ use Rattle.net_types.specs.declared.address.Net.{Net}
 use Rattle.net_types.specs.declared.address.Net.TheVariants.{V4, V6}
 use Rattle.net_types.specs.declared.address.Net4.{Net4}
 use Rattle.ipv4ll.specs.Choice.{IsChoice}
-use Rattle.client_model.specs.WantedRows.{local_net}
+use Rattle.evidence_words.specs.ClientModel.WantedRows.{local_net}
 use Rattle.evidence_words.specs.Entries.{Entry as Told}
 use Rattle.evidence_words.specs.Inputs.{Site}
 use Rattle.local_evidence.specs.LinkLocalBasis.{LinkLocalBasis}

@@ -4,7 +4,7 @@ use Rattle.std.specs.Option.{is_some}
 use Rattle.net_types.specs.declared.address.Ip4.{Ip4}
 use Rattle.net_types.specs.declared.address.Net.TheVariants.{V4}
 use Rattle.ipv4ll.specs.Choice.{IsChoice}
-use Rattle.client_model.specs.WantedRows.{local_net}
+use Rattle.evidence_words.specs.ClientModel.WantedRows.{local_net}
 use Rattle.evidence_words.specs.Entries.{Entry}
 use Rattle.evidence_words.specs.Inputs.{Site, StaysOn}
 use Rattle.evidence_words.specs.Probed.{Probes}

@@ -10,3 +10,4 @@ pub use announcements::is_alone;
 pub use choices::{Choice, ChoiceTurn};
 pub use judge::{Chosen, LocalJudge, goes_on};
 pub use laws::{choices_are_told, chosen_have_bases, probes_are_told};
+pub use probe_table::{ProbeTable, carrier_after, is_past};

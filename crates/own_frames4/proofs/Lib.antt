@@ -1,1 +1,2 @@
 mod OwnTests
+pub use Rattle.lease_evidence.proofs as LeaseEvidence

@@ -1,1 +1,2 @@
 pub mod Offered
+pub use Rattle.lease_evidence.specs as LeaseEvidence

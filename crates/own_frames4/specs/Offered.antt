@@ -5,8 +5,8 @@ use Rattle.v4_frames.specs.declared.sent.Sent4.{Sent4}
 use Rattle.settings.specs.declared.interfaces.Managed.{Managed}
 use Rattle.audit_words.specs.Shown.{offer_shown}
 use Rattle.audit_words.specs.declared.shown.Offer.{Offer}
-use Rattle.evidence_words.specs.Entries as told
-use Rattle.evidence_words.specs.Entries.{offers_on}
+use Rattle.audit_words.specs.EvidenceWords.Entries as told
+use Rattle.audit_words.specs.EvidenceWords.Entries.{offers_on}
 use Rattle.lease_evidence.specs.OwnMessages.{own_in, speaker_of}
 
 -- the message of the interface's client that a frame spells, where it spells one

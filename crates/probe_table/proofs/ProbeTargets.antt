@@ -8,9 +8,9 @@ use Rattle.net_types.specs.declared.address.Ip4.{Ip4}
 use Rattle.net_types.specs.declared.address.Mac.{Mac}
 use Rattle.net_types.specs.AddressText.{FitsIp4}
 use Rattle.frame_link.specs.Packets.{probe_text}
-use Rattle.evidence_words.specs.Inputs.{index_at}
-use Rattle.evidence_words.specs.Entries.{Offer as Told, offers_on}
-use Rattle.evidence_words.specs.Probed.{probe_taken}
+use Rattle.audit_words.specs.EvidenceWords.Inputs.{index_at}
+use Rattle.audit_words.specs.EvidenceWords.Entries.{Offer as Told, offers_on}
+use Rattle.audit_words.specs.EvidenceWords.Probed.{probe_taken}
 use Rattle.audit_words.specs.Shown.{offer_shown, site_shown}
 use Rattle.audit_words.specs.declared.shown.Offer.{Offer}
 use Rattle.audit_words.specs.declared.shown.Site.{Site}

@@ -8,9 +8,9 @@ use Rattle.net_types.specs.declared.address.Ip4.{Ip4}
 use Rattle.net_types.specs.declared.address.Mac.{Mac}
 use Rattle.net_types.specs.AddressText.{FitsIp4}
 use Rattle.frame_link.specs.declared.arp.ArpView.{ArpView}
-use Rattle.evidence_words.specs.Entries.{Entry as Told}
-use Rattle.evidence_words.specs.Inputs.{arp_on, index_at, offers_at, tells_contest}
-use Rattle.evidence_words.specs.Probed.{probe_taken}
+use Rattle.audit_words.specs.EvidenceWords.Entries.{Entry as Told}
+use Rattle.audit_words.specs.EvidenceWords.Inputs.{arp_on, index_at, offers_at, tells_contest}
+use Rattle.audit_words.specs.EvidenceWords.Probed.{probe_taken}
 use Rattle.audit_words.specs.Shown.{entry_shown, site_shown}
 use Rattle.audit_words.specs.declared.shown.Entry.{Entry}
 use Rattle.audit_words.specs.declared.shown.Site.{Site}

@@ -1,9 +1,9 @@
 -- How far an address was probed (RFC 5227, section 2.1.1), kept turn by turn. Moments are in milliseconds since 1970.
 use Rattle.std.specs.Prelude.{ℕ, ◌+◌, Bool, true, false, ◌&&◌, nat_le, if◌then◌else◌, List, [], ◌∷◌, Option, Some, None}
 use Rattle.net_types.specs.declared.address.Ip4.{Ip4}
-use Rattle.evidence_words.specs.Entries.{Entry}
-use Rattle.evidence_words.specs.Inputs.{Site, offers_at, contests}
-use Rattle.evidence_words.specs.Probed.{probe_taken}
+use Rattle.audit_words.specs.EvidenceWords.Entries.{Entry}
+use Rattle.audit_words.specs.EvidenceWords.Inputs.{Site, offers_at, contests}
+use Rattle.audit_words.specs.EvidenceWords.Probed.{probe_taken}
 use Rattle.probe_table.specs.declared.times.ProbeTimes.{ProbeTimes}
 use Rattle.probe_table.specs.declared.times.ProbeTurn.{ProbeTurn}
 

@@ -4,9 +4,9 @@ use Rattle.std.specs.List.{list_any}
 use Rattle.std.specs.Option.{is_some}
 use Rattle.net_types.specs.AddressText.{FitsIp4}
 use Rattle.net_types.specs.declared.address.Ip4.{Ip4}
-use Rattle.evidence_words.specs.Entries as told
-use Rattle.evidence_words.specs.Inputs as told_of
-use Rattle.evidence_words.specs.Inputs.{tells_contest}
+use Rattle.audit_words.specs.EvidenceWords.Entries as told
+use Rattle.audit_words.specs.EvidenceWords.Inputs as told_of
+use Rattle.audit_words.specs.EvidenceWords.Inputs.{tells_contest}
 use Rattle.audit_words.specs.Shown.{entry_shown, site_shown}
 use Rattle.audit_words.specs.declared.shown.Entry.{Entry}
 use Rattle.audit_words.specs.declared.shown.Site.{Site}

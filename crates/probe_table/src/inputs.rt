@@ -1,7 +1,7 @@
 //! What the input of a turn means to an address of an interface.
 
 ghost use Rattle.std.specs.Prelude.{◌≡◌};
-ghost use Rattle.evidence_words.specs.Inputs.{arp_on, carrier_after, index_at, tells_contest, tells_use};
+ghost use Rattle.audit_words.specs.EvidenceWords.Inputs.{arp_on, carrier_after, index_at, tells_contest, tells_use};
 ghost use Rattle.audit_words.specs.Shown.{site_shown};
 
 use arp_acd::{is_contested, is_used};

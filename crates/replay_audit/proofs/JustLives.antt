@@ -16,7 +16,7 @@ use Rattle.device_calls.proofs.Running.{run_coming}
 use Rattle.turn_model.specs.FilesInLife.{AreNamedApart}
 use Rattle.turn_model.specs.Foretold.{ran_opening}
 use Rattle.turn_model.specs.Opening.{opening_asks}
-use Rattle.evidence.specs.Laws.{AreNumbered, AreSharedWithOthers}
+use Rattle.life_audit.specs.Evidence.Laws.{AreNumbered, AreSharedWithOthers}
 use Rattle.audit_model.specs.Verdicts.{BasisWord, LifeIsJust}
 use Rattle.life_audit.specs.Laws.{LinesRestOnEvidence, meets_told}
 use Rattle.dhcpcd.specs.Replays.{Between, Failing, IsScript, after_life, at_first, configuration_text, failing_in, managed_in, world_in}

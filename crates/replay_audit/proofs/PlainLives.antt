@@ -16,8 +16,8 @@ use Rattle.device_calls.specs.Calls.{Call, Link, Host, Store, Hook, Dropped}
 use Rattle.device_calls.specs.CallLines.{lines_of, variable_line}
 use Rattle.turn_model.specs.Turns.{Life, until}
 use Rattle.turn_model.specs.Lives.{Met, OpeningMet, hold_lines, life_after, turn_calls, turns_calls}
-use Rattle.safe_texts.specs.ConfiguredTexts.{HasPlainVariables, IsPlainVariable}
-use Rattle.safe_texts.specs.SafeJobs.{job_in}
+use Rattle.told_lives.specs.SafeTexts.ConfiguredTexts.{HasPlainVariables, IsPlainVariable}
+use Rattle.told_lives.specs.SafeTexts.SafeJobs.{job_in}
 use Rattle.transcript_model.specs.Told.{lines_within, turn_lines}
 use Rattle.audit_model.specs.LivesTold.{life_lived, lines_by, only_last, turns_lived}
 use Rattle.told_texts.specs.Laws.{IsPlain}

@@ -3,15 +3,15 @@ use Rattle.std.proofs.Common.{◌≡◌, ℕ, ◌^◌, ◌<◌, true, List, [], 
 use Rattle.std.specs.List.{AllByRecursion}
 use Rattle.std.specs.Fmt.{decimal}
 use Rattle.std.proofs.lemmas.Bool.Decides.{nat_tests}
-use Rattle.net_types.specs.declared.address.Ip6.{Ip6}
-use Rattle.net_types.specs.declared.address.Net6.{Net6}
-use Rattle.net_types.specs.AddressText.{ip4_text, net_text}
-use Rattle.net_types.specs.Ip6Text.{is_group_byte, SpellsIp6, SpellsNet6}
-use Rattle.net_types.specs.Marks.{Lacks, is_printable, IsPrintable}
-use Rattle.net_types.proofs.MarkLaws.{only-append, only_weaker, lacks_from, decimal_printable, ip4_printable, net4_printable}
-use Rattle.net_types.specs.declared.address.Net.{Net}
-use Rattle.net_types.specs.declared.address.Net.TheVariants.{V4, V6}
-use Rattle.net_types.proofs.Ip6Laws.{ip6_printed, net6_printed}
+use Rattle.world.specs.NetTypes.declared.address.Ip6.{Ip6}
+use Rattle.world.specs.NetTypes.declared.address.Net6.{Net6}
+use Rattle.world.specs.NetTypes.AddressText.{ip4_text, net_text}
+use Rattle.world.specs.NetTypes.Ip6Text.{is_group_byte, SpellsIp6, SpellsNet6}
+use Rattle.world.specs.NetTypes.Marks.{Lacks, is_printable, IsPrintable}
+use Rattle.world.proofs.NetTypes.MarkLaws.{only-append, only_weaker, lacks_from, decimal_printable, ip4_printable, net4_printable}
+use Rattle.world.specs.NetTypes.declared.address.Net.{Net}
+use Rattle.world.specs.NetTypes.declared.address.Net.TheVariants.{V4, V6}
+use Rattle.world.proofs.NetTypes.Ip6Laws.{ip6_printed, net6_printed}
 use Rattle.world.specs.declared.rows.HostRow.{HostRow}
 use Rattle.world.specs.declared.rows.HostRow.TheVariants.{Addr, Route}
 use Rattle.world.specs.declared.rows.Via.{Via}

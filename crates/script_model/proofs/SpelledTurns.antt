@@ -1,7 +1,7 @@
 -- The printed text of what a turn is given spells it.
 use Rattle.std.proofs.Common.{ℕ, List, refl}
-use Rattle.net_types.specs.AddressText.{ip6_text}
-use Rattle.net_types.proofs.Ip6Laws.{ip6_printed}
+use Rattle.world.specs.NetTypes.AddressText.{ip6_text}
+use Rattle.world.proofs.NetTypes.Ip6Laws.{ip6_printed}
 use Rattle.world.specs.declared.wakes.Event.{Event}
 use Rattle.world.specs.declared.wakes.Event.TheVariants.{Frame, Carrier, Duplicate, Release, Rebind, Stop, Quiet, End}
 use Rattle.world.specs.LinkCalls.{Given}

@@ -1,7 +1,7 @@
 -- The files that the store holds at first.
 use Rattle.std.specs.Prelude.{ℕ, ◌≡◌, ◌≤◌, List, ◌++◌, codes, length}
-use Rattle.net_types.specs.HexText.{hex_text}
-use Rattle.net_types.specs.Marks.{AreBytes}
+use Rattle.world.specs.NetTypes.HexText.{hex_text}
+use Rattle.world.specs.NetTypes.Marks.{AreBytes}
 use Rattle.world.specs.FileLists.{StoreFile}
 use Rattle.world.specs.FileNames.{IsFileName}
 

@@ -1,12 +1,12 @@
 -- The lines of a transcript, and their texts.
 use Rattle.std.specs.Prelude.{ℕ, zero, suc, Bool, true, false, List, [], ◌∷◌, ◌++◌, map, filter, flat_map, codes, decimal, Option, Some, None}
 use Rattle.std.specs.List.{join_with_byte}
-use Rattle.net_types.specs.declared.interface.IfIndex.{IfIndex}
-use Rattle.net_types.specs.declared.interface.IfSpec.{IfSpec}
-use Rattle.net_types.specs.declared.address.Net.{Net}
-use Rattle.net_types.specs.AddressText.{ip6_text, net_text, mac_text}
-use Rattle.net_types.specs.NameText.{name_text}
-use Rattle.net_types.specs.HexText.{hex_text}
+use Rattle.world.specs.NetTypes.declared.interface.IfIndex.{IfIndex}
+use Rattle.world.specs.NetTypes.declared.interface.IfSpec.{IfSpec}
+use Rattle.world.specs.NetTypes.declared.address.Net.{Net}
+use Rattle.world.specs.NetTypes.AddressText.{ip6_text, net_text, mac_text}
+use Rattle.world.specs.NetTypes.NameText.{name_text}
+use Rattle.world.specs.NetTypes.HexText.{hex_text}
 use Rattle.world.specs.declared.wakes.Begin.{Begin}
 use Rattle.world.specs.declared.wakes.Event.{Event}
 use Rattle.world.specs.declared.wakes.Event.TheVariants.{Frame, Carrier, Duplicate, Release, Rebind, Stop, Quiet, End}

@@ -1,12 +1,12 @@
 -- Which texts spell a row of the host: its words in order. An IPv6 address may have any spelling (RFC 4291, section
 -- 2.2), all else is as printed.
 use Rattle.std.specs.Prelude.{◌≡◌, ℕ, List, [], ◌++◌, codes, decimal}
-use Rattle.net_types.specs.declared.address.Ip6.{Ip6}
-use Rattle.net_types.specs.declared.address.Net.{Net}
-use Rattle.net_types.specs.declared.address.Net.TheVariants as Family
-use Rattle.net_types.specs.declared.interface.IfIndex.{IfIndex}
-use Rattle.net_types.specs.AddressText.{ip4_text, net4_text}
-use Rattle.net_types.specs.Ip6Text.{SpellsIp6, SpellsNet6}
+use Rattle.world.specs.NetTypes.declared.address.Ip6.{Ip6}
+use Rattle.world.specs.NetTypes.declared.address.Net.{Net}
+use Rattle.world.specs.NetTypes.declared.address.Net.TheVariants as Family
+use Rattle.world.specs.NetTypes.declared.interface.IfIndex.{IfIndex}
+use Rattle.world.specs.NetTypes.AddressText.{ip4_text, net4_text}
+use Rattle.world.specs.NetTypes.Ip6Text.{SpellsIp6, SpellsNet6}
 use Rattle.world.specs.declared.rows.HostRow.{HostRow}
 use Rattle.world.specs.declared.rows.HostRow.TheVariants.{Addr, Route}
 use Rattle.world.specs.declared.rows.Via.{Via}

@@ -1,6 +1,6 @@
 -- What a script says.
 use Rattle.std.specs.Prelude.{ℕ, List, [], ◌∷◌, ◌++◌, Option}
-use Rattle.net_types.specs.declared.interface.IfSpec.{IfSpec}
+use Rattle.world.specs.NetTypes.declared.interface.IfSpec.{IfSpec}
 use Rattle.world.specs.declared.wakes.Begin.{Begin}
 use Rattle.world.specs.declared.rows.HostRow.{HostRow}
 use Rattle.world.specs.declared.hooking.Poll.{Poll}

@@ -1,9 +1,9 @@
 -- Which scripts there are.
 use Rattle.std.specs.Prelude.{ℕ, ◌≡◌, ◌+◌, ◌^◌, ◌<◌, ◌≤◌, List, [], ◌∷◌, length, All, AllPairs, IfSome, IsTrue, is_some}
-use Rattle.net_types.specs.declared.interface.IfSpec.{IfSpec}
-use Rattle.net_types.specs.AddressText.{FitsIp6, FitsMac}
-use Rattle.net_types.specs.NameText.{FitsName}
-use Rattle.net_types.specs.Marks.{Lacks, AreBytes}
+use Rattle.world.specs.NetTypes.declared.interface.IfSpec.{IfSpec}
+use Rattle.world.specs.NetTypes.AddressText.{FitsIp6, FitsMac}
+use Rattle.world.specs.NetTypes.NameText.{FitsName}
+use Rattle.world.specs.NetTypes.Marks.{Lacks, AreBytes}
 use Rattle.world.specs.declared.wakes.Event.{Event}
 use Rattle.world.specs.declared.wakes.Event.TheVariants.{Frame, Carrier, Duplicate, Release, Rebind, Stop, Quiet, End}
 use Rattle.world.specs.LinkCalls.{Given}

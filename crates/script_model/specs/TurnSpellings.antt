@@ -1,8 +1,8 @@
 -- Which texts spell what a turn is given: its words in order. An IPv6 address may have any spelling (RFC 4291, section
 -- 2.2), all else is as printed.
 use Rattle.std.specs.Prelude.{◌≡◌, ℕ, List, ◌++◌, codes, decimal}
-use Rattle.net_types.specs.declared.address.Ip6.{Ip6}
-use Rattle.net_types.specs.Ip6Text.{SpellsIp6}
+use Rattle.world.specs.NetTypes.declared.address.Ip6.{Ip6}
+use Rattle.world.specs.NetTypes.Ip6Text.{SpellsIp6}
 use Rattle.world.specs.declared.wakes.Event.{Event}
 use Rattle.world.specs.declared.wakes.Event.TheVariants.{Duplicate}
 use Rattle.world.specs.LinkCalls.{Given}

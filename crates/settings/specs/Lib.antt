@@ -6,3 +6,4 @@ pub mod ResolverSettings
 pub mod HookSettings
 pub mod Fitting
 pub mod ManagedRows
+pub use Rattle.prefix_share.specs as PrefixShare

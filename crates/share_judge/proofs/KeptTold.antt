@@ -15,11 +15,11 @@ use Rattle.v6_client.specs.declared.setup.IaAsk.{IaAsk}
 use Rattle.v6_client.specs.Items.{is_live}
 use Rattle.v6_client_laws.proofs.FirstItems.{behind_in, front_in}
 use Rattle.v6_client_laws.proofs.Given.{met}
-use Rattle.client_model.specs.ClientSettings6.{ask_for}
-use Rattle.evidence_words.specs.Entries.{Entry}
-use Rattle.evidence_words.specs.IfaceLives.{now_in}
-use Rattle.evidence_words.specs.Inputs.{Site}
-use Rattle.lease6_evidence.specs.KeptBasis6.{KeptBasis6}
+use Rattle.evidence.specs.ClientModel.ClientSettings6.{ask_for}
+use Rattle.audit_words.specs.EvidenceWords.Entries.{Entry}
+use Rattle.audit_words.specs.EvidenceWords.IfaceLives.{now_in}
+use Rattle.audit_words.specs.EvidenceWords.Inputs.{Site}
+use Rattle.evidence.specs.Lease6Evidence.KeptBasis6.{KeptBasis6}
 use Rattle.evidence.specs.ShareBasis.{ShareBasisOf}
 use Rattle.kept_judge.specs.declared.standing.Kept6.{Kept6}
 use Rattle.kept_judge.specs.Asking6.{Tells6, is_asking6, kept6_in}

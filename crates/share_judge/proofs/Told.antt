@@ -9,12 +9,12 @@ use Rattle.net_types.specs.declared.address.Net6.{Net6}
 use Rattle.net_types.specs.declared.interface.IfIndex.{IfIndex}
 use Rattle.prefix_share.specs.Subnets.{subnet_in}
 use Rattle.settings.specs.declared.dhcp6_conf.ShareConf.{ShareConf}
-use Rattle.client_model.specs.WantedRows.{first_address}
+use Rattle.evidence.specs.ClientModel.WantedRows.{first_address}
 use Rattle.v6_client.specs.declared.setup.IaAsk.{IaAsk}
 use Rattle.v6_client_laws.proofs.Given.{met}
-use Rattle.evidence_words.specs.Entries.{Entry}
-use Rattle.evidence_words.specs.IfaceLives.{now_in}
-use Rattle.evidence_words.specs.Inputs.{Site}
+use Rattle.audit_words.specs.EvidenceWords.Entries.{Entry}
+use Rattle.audit_words.specs.EvidenceWords.IfaceLives.{now_in}
+use Rattle.audit_words.specs.EvidenceWords.Inputs.{Site}
 use Rattle.evidence.specs.ShareBasis.{ShareBasisOf}
 use Rattle.kept_judge.proofs.Lists.{has_any}
 use Rattle.share_judge.specs.declared.prefix.HeldPrefix.{HeldPrefix}

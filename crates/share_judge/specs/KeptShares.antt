@@ -11,8 +11,8 @@ use Rattle.lease6_text.specs.LineParts.{is_same_kind}
 use Rattle.settings.specs.declared.dhcp6_conf.IaConf.{IaConf}
 use Rattle.settings.specs.declared.interfaces.Managed.{Managed}
 use Rattle.v6_client.specs.Items.{is_live}
-use Rattle.evidence_words.specs.Entries.{Entry}
-use Rattle.evidence_words.specs.Inputs.{Site}
+use Rattle.audit_words.specs.EvidenceWords.Entries.{Entry}
+use Rattle.audit_words.specs.EvidenceWords.Inputs.{Site}
 use Rattle.kept_judge.specs.declared.standing.Kept6.{Kept6}
 use Rattle.kept_judge.specs.Asking6.{is_asking6, kept6_in}
 use Rattle.share_judge.specs.declared.prefix.HeldPrefix.{HeldPrefix}

@@ -6,11 +6,11 @@ use Rattle.net_types.specs.declared.address.Net6.{Net6}
 use Rattle.net_types.specs.declared.interface.IfIndex.{IfIndex}
 use Rattle.v6_options.specs.declared.ia.IaKind.TheVariants.{Pd}
 use Rattle.v6_client.specs.declared.setup.IaAsk.{IaAsk}
-use Rattle.evidence_words.specs.Entries.{Entry}
-use Rattle.evidence_words.specs.IfaceLives.{now_in}
-use Rattle.evidence_words.specs.Inputs.{Site}
-use Rattle.lease6_evidence.specs.KeptBasis6.{KeptBasis6}
-use Rattle.lease6_evidence.specs.Replies6.{asks_at}
+use Rattle.audit_words.specs.EvidenceWords.Entries.{Entry}
+use Rattle.audit_words.specs.EvidenceWords.IfaceLives.{now_in}
+use Rattle.audit_words.specs.EvidenceWords.Inputs.{Site}
+use Rattle.evidence.specs.Lease6Evidence.KeptBasis6.{KeptBasis6}
+use Rattle.evidence.specs.Lease6Evidence.Replies6.{asks_at}
 use Rattle.evidence.specs.ShareBasis.{ShareBasisOf}
 use Rattle.share_judge.specs.declared.prefix.HeldPrefix.{HeldPrefix}
 use Rattle.share_judge.specs.KeptShares.{is_kept_share}

@@ -8,7 +8,7 @@ use Rattle.net_types.specs.declared.interface.IfIndex.{IfIndex}
 use Rattle.prefix_share.specs.Subnets.{subnet_in}
 use Rattle.settings.specs.declared.dhcp6_conf.ShareConf.{ShareConf}
 use Rattle.settings.specs.declared.interfaces.Managed.{Managed}
-use Rattle.client_model.specs.WantedRows.{first_address}
+use Rattle.evidence.specs.ClientModel.WantedRows.{first_address}
 use Rattle.share_judge.specs.declared.prefix.HeldPrefix.{HeldPrefix}
 
 -- the address is the first one of the subnet after that of its routers

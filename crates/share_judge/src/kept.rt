@@ -2,7 +2,7 @@
 
 ghost use Rattle.std.specs.Prelude.{◌≡◌, List, option_map};
 ghost use Rattle.std.specs.List.{list_any};
-ghost use Rattle.evidence_words.specs.Entries as told;
+ghost use Rattle.audit_words.specs.EvidenceWords.Entries as told;
 ghost use Rattle.lease6_text.specs.Leases.{ia_content, ias_content, lease6_content};
 ghost use Rattle.settings.specs.Fitting.{FitsManaged};
 ghost use Rattle.audit_words.specs.Shown.{FitsSite, site_shown};

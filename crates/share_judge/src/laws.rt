@@ -1,8 +1,8 @@
 //! The laws that a share is told by the prefixes held. These functions do nothing: their contracts are the laws.
 
-ghost use Rattle.lease6_evidence.specs.HeldItems.{ItemRests};
-ghost use Rattle.lease6_evidence.specs.ItemBasis.{ItemBasis};
-ghost use Rattle.lease6_evidence.specs.KeptBasis6.{KeptBasis6};
+ghost use Rattle.evidence.specs.Lease6Evidence.HeldItems.{ItemRests};
+ghost use Rattle.evidence.specs.Lease6Evidence.ItemBasis.{ItemBasis};
+ghost use Rattle.evidence.specs.Lease6Evidence.KeptBasis6.{KeptBasis6};
 ghost use Rattle.share_judge.specs.Laws.{KeptSharesAreTold, ListsTellShares, SharesAreTold, SharesOfEither};
 
 /// Law: an address rests on a share exactly where some prefix that has its basis gives it (RFC 3633, section 12.1).

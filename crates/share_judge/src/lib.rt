@@ -7,6 +7,7 @@ mod prefix;
 mod sharing;
 
 pub use kept::kept_shares;
+pub use kept_judge::{Kept4, Kept6, Spoken6};
 pub use laws::{
     kept_shares_are_told, listed_prefixes_tell_shares, shares_are_of_either, shares_are_told,
 };

@@ -38,7 +38,7 @@ use Rattle.evidence_words.specs.Entries.{shown_of}
 use Rattle.evidence_words.specs.IfaceLives.{shown}
 use Rattle.lease_evidence.specs.PlainIface.{client_mac}
 use Rattle.lease_evidence.proofs.Joining.{LeaseRelation}
-use Rattle.lease6_evidence.specs.FourMessages.{advertise, downstream, from_server, interface, opening, reply, three_turns}
+use Rattle.evidence.specs.Lease6Evidence.FourMessages.{advertise, downstream, from_server, interface, opening, reply, three_turns}
 use Rattle.evidence.specs.Laws.{AreMade, AreNumbered, AreOctets, AreSharedWithOthers, Basis, HasBasis, HasBasisOf, HasShareBasis, IsLife, site_of}
 use Rattle.evidence.proofs.Based.{have_basis}
 use Rattle.evidence.proofs.HostRests.{are_made, is_opening}

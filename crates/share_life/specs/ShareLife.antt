@@ -17,7 +17,7 @@ use Rattle.turn_model.specs.Lives.{OpeningMet, Met}
 use Rattle.turn_model.specs.Foretold.{opening_of}
 use Rattle.turn_model.specs.HostInLife.{running_opened}
 use Rattle.lease_evidence.specs.PlainIface.{plain_eth0}
-use Rattle.lease6_evidence.specs.FourMessages.{advertise, downstream, from_server, interface, reply, share}
+use Rattle.evidence.specs.Lease6Evidence.FourMessages.{advertise, downstream, from_server, interface, reply, share}
 use Rattle.evidence.specs.HeldAddresses.{mets_of}
 
 abbrev pub second_mac : Mac

@@ -9,7 +9,7 @@ ghost use Rattle.turn_model.specs.HostInLife.{life_run};
 ghost use Rattle.turn_model.specs.Lives.{IsOpening, life_after};
 ghost use Rattle.evidence_words.specs.Entries.{shown_of};
 ghost use Rattle.evidence_words.specs.IfaceLives.{shown};
-ghost use Rattle.lease6_evidence.specs.FourMessages.{downstream, opening, three_turns};
+ghost use Rattle.evidence.specs.Lease6Evidence.FourMessages.{downstream, opening, three_turns};
 ghost use Rattle.evidence.specs.Laws.{AreMade, HasShareBasis};
 ghost use Rattle.share_life.specs.ShareLife.{coming, devices, managed, opens, shared, specs, turns};
 

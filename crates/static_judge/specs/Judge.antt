@@ -5,8 +5,8 @@ use Rattle.net_types.specs.declared.address.Net.TheVariants.{V4, V6}
 use Rattle.net_types.specs.declared.address.Net4.{Net4}
 use Rattle.net_types.specs.declared.address.Net6.{Net6}
 use Rattle.settings.specs.declared.interfaces.IfConf.{IfConf}
-use Rattle.evidence_words.specs.Entries.{Entry}
-use Rattle.evidence_words.specs.Inputs.{Site, has_carrier, is_stopped}
+use Rattle.audit_words.specs.EvidenceWords.Entries.{Entry}
+use Rattle.audit_words.specs.EvidenceWords.Inputs.{Site, has_carrier, is_stopped}
 use Rattle.evidence.specs.StaticBasis.{StaticBasis}
 use Rattle.static_judge.specs.declared.judge.StaticJudge.{StaticJudge}
 

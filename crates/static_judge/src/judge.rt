@@ -1,8 +1,8 @@
 //! Judging turn by turn whether a configured address stands: the interface has carrier, and no stop was asked for.
 
 ghost use Rattle.std.specs.Prelude.{◌≡◌, ◌∷◌, [], List};
-ghost use Rattle.evidence_words.specs.Entries as told;
-ghost use Rattle.evidence_words.specs.Inputs.{is_stop};
+ghost use Rattle.audit_words.specs.EvidenceWords.Entries as told;
+ghost use Rattle.audit_words.specs.EvidenceWords.Inputs.{is_stop};
 ghost use Rattle.audit_words.specs.Shown.{entry_shown, site_shown};
 ghost use Rattle.static_judge.specs.Judge.{Tells, gives_in, is_configured};
 

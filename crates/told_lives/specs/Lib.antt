@@ -1,2 +1,3 @@
 pub mod FittingWorlds
 pub mod Laws
+pub use Rattle.safe_texts.specs as SafeTexts

@@ -1,11 +1,11 @@
 -- What judges of interfaces say of a text is so: they tell which addresses have their basis.
 use Rattle.std.proofs.Common.{◌≡◌, ℕ, ◌<◌, ◌≤◌, ◌^◌, List, length, sym, subst, ◌∙◌, arith}
 use Rattle.world.specs.declared.rows.HostRow.{HostRow}
-use Rattle.audit_model.specs.Auditing.{Judge}
-use Rattle.audit_model.specs.Laws.{audited}
-use Rattle.audit_model.specs.Verdicts.{FirstUnjust, IsNo, IsYes}
-use Rattle.audit_model.proofs.Found.{said}
-use Rattle.audit_seats.specs.Tests.{judged_by}
+use Rattle.iface_judge.specs.AuditModel.Auditing.{Judge}
+use Rattle.iface_judge.specs.AuditModel.Laws.{audited}
+use Rattle.iface_judge.specs.AuditModel.Verdicts.{FirstUnjust, IsNo, IsYes}
+use Rattle.iface_judge.proofs.AuditModel.Found.{said}
+use Rattle.iface_judge.specs.AuditSeats.Tests.{judged_by}
 use Rattle.audit_follower.specs.Holding.{counted}
 use Rattle.iface_judge.specs.Among.{AllAreTold}
 use Rattle.iface_judge.specs.Joined.{is_own, is_shared}

@@ -3,3 +3,6 @@ mod TurnCounts
 mod BadLines
 mod JudgedTexts
 mod OneVerdict
+pub use Rattle.iface_judge.proofs.Evidence
+pub use Rattle.iface_judge.proofs as IfaceJudge
+pub use Rattle.iface_judge.proofs.KeptJudge

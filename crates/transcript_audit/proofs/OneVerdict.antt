@@ -4,10 +4,10 @@ use Rattle.lease_text.proofs.SpelledOnce.{no_bad_line}
 use Rattle.world.specs.declared.rows.HostRow.{HostRow}
 use Rattle.transcript_model.specs.Told.{Told}
 use Rattle.transcript_read.specs.Whole.{TranscriptsAreOne}
-use Rattle.audit_model.specs.Auditing.{Unjust}
-use Rattle.audit_model.specs.Laws.{HasOneVerdict}
-use Rattle.audit_model.specs.Verdicts.{FirstUnjust, IsNo, IsYes, Justified, turns_told}
-use Rattle.audit_model.proofs.Found.{has_one}
+use Rattle.iface_judge.specs.AuditModel.Auditing.{Unjust}
+use Rattle.iface_judge.specs.AuditModel.Laws.{HasOneVerdict}
+use Rattle.iface_judge.specs.AuditModel.Verdicts.{FirstUnjust, IsNo, IsYes, Justified, turns_told}
+use Rattle.iface_judge.proofs.AuditModel.Found.{has_one}
 use Rattle.iface_judge.specs.Among.{AllAreTold}
 use Rattle.transcript_audit.specs.declared.verdict.Verdict.{Verdict}
 use Rattle.transcript_audit.specs.declared.verdict.Verdict.TheVariants as verdicts

@@ -2,8 +2,8 @@
 use Rattle.std.proofs.Common.{◌≡◌, ℕ, List, Option, Some, None, refl, subst}
 use Rattle.transcript_read.specs.Following.{Reaches}
 use Rattle.transcript_read.specs.Whole.{IsFollowedWhole}
-use Rattle.audit_model.specs.Auditing.{Auditing, Judge, Unjust, after, first}
-use Rattle.audit_seats.specs.Seats.{Telling}
+use Rattle.iface_judge.specs.AuditModel.Auditing.{Auditing, Judge, Unjust, after, first}
+use Rattle.iface_judge.specs.AuditSeats.Seats.{Telling}
 use Rattle.audit_follower.specs.declared.auditor.Auditor.{Auditor}
 use Rattle.audit_follower.specs.declared.unjust.Unjust as code
 use Rattle.audit_follower.specs.Holding.{Audits, Finds}

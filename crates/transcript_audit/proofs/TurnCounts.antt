@@ -11,7 +11,7 @@ use Rattle.script_model.specs.Spellings.{AreSpelled}
 use Rattle.transcript_lines.specs.LineSpellings.{IsTold}
 use Rattle.transcript_model.specs.Told.{LifeTold, Told, TurnTold, body_lines, head_lines, life_lines, lines_within, lives_lines, turn_lines}
 use Rattle.transcript_model.specs.Transcripts.{SpellsTold}
-use Rattle.audit_model.specs.Verdicts.{BasisWord, FirstUnjust, turns_told}
+use Rattle.iface_judge.specs.AuditModel.Verdicts.{BasisWord, FirstUnjust, turns_told}
 
 -- a line takes a byte at least
 lines_in_text : (texts : List Texts.Line) (lines : List Line) → AreSpelled IsTold texts lines → length lines ≤ length (lines_text texts)

@@ -1,3 +1,7 @@
 pub mod Verdicts
 pub mod Saying
 pub mod Laws
+pub use Rattle.audit_follower.specs as AuditFollower
+pub use Rattle.iface_judge.specs.Evidence
+pub use Rattle.iface_judge.specs as IfaceJudge
+pub use Rattle.iface_judge.specs.Lease6Judge

@@ -4,8 +4,8 @@ use Rattle.net_types.specs.FirstBadLine.{IsSpelled}
 use Rattle.world.specs.declared.rows.HostRow.{HostRow}
 use Rattle.transcript_model.specs.Told.{Told}
 use Rattle.transcript_model.specs.Transcripts.{SpellsTold}
-use Rattle.audit_model.specs.Auditing.{Auditing, Judge, Unjust}
-use Rattle.audit_model.specs.Laws.{audited}
+use Rattle.iface_judge.specs.AuditModel.Auditing.{Auditing, Judge, Unjust}
+use Rattle.iface_judge.specs.AuditModel.Laws.{audited}
 use Rattle.audit_follower.specs.Holding.{counted}
 use Rattle.transcript_audit.specs.declared.verdict.Verdict.{Verdict}
 use Rattle.transcript_audit.specs.declared.verdict.Verdict.TheVariants as verdicts

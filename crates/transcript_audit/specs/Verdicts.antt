@@ -1,10 +1,10 @@
 -- What is said of a text: that it is a transcript, and whether each address that it shows on a managed interface has
 -- its basis.
 use Rattle.std.specs.Prelude.{ℕ, List}
-use Rattle.evidence.specs.Laws.{HasBasisIn}
-use Rattle.lease6_judge.specs.HeardBasis.{HeardBasis}
+use Rattle.iface_judge.specs.Evidence.Laws.{HasBasisIn}
+use Rattle.iface_judge.specs.Lease6Judge.HeardBasis.{HeardBasis}
 use Rattle.transcript_read.specs.Whole.{IsBadLine}
-use Rattle.audit_model.specs.Verdicts.{BasisWord, IsYes, IsNo}
+use Rattle.iface_judge.specs.AuditModel.Verdicts.{BasisWord, IsYes, IsNo}
 use Rattle.iface_judge.specs.Laws.{HeardAddress}
 use Rattle.transcript_audit.specs.declared.verdict.Verdict.{Verdict}
 use Rattle.transcript_audit.specs.declared.verdict.Verdict.TheVariants as verdicts

@@ -1,14 +1,13 @@
 //! A whole transcript, audited in one pass.
 ghost use Rattle.std.specs.Prelude.{IfErr, IfOk};
-ghost use Rattle.audit_seats.specs.Tests.{judged_by};
+ghost use Rattle.iface_judge.specs.AuditSeats.Tests.{judged_by};
 ghost use Rattle.transcript_read.specs.Whole.{IsNoTranscript};
 ghost use Rattle.transcript_audit.specs.Saying.{IsAuditedBy};
 ghost use Rattle.transcript_audit.specs.Verdicts.{IsJudged};
 
 use crate::judging::Judging;
 use crate::verdict::Verdict;
-use audit_seats::Judge;
-use iface_judge::{IfaceJudge, all_addresses_are_told};
+use iface_judge::{IfaceJudge, Judge, all_addresses_are_told};
 use std::alloc::Global;
 use transcript_read::{TranscriptAnswer, follow_transcript};
 

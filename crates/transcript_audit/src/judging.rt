@@ -1,14 +1,14 @@
 //! What goes through the lines of a transcript.
-ghost use Rattle.audit_model.specs.Auditing as model;
-ghost use Rattle.audit_model.specs.Auditing.{Auditing};
-ghost use Rattle.audit_seats.specs.Tests.{judged_by};
+ghost use Rattle.iface_judge.specs.AuditModel.Auditing as model;
+ghost use Rattle.iface_judge.specs.AuditModel.Auditing.{Auditing};
+ghost use Rattle.iface_judge.specs.AuditSeats.Tests.{judged_by};
 ghost use Rattle.audit_follower.specs.Holding.{Audits};
 ghost use Rattle.transcript_audit.specs.Saying.{Says};
 
 use crate::verdict::Verdict;
 use audit_follower::{Auditor, Unjust};
-use audit_seats::Judge;
 use conf_text::Conf;
+use iface_judge::Judge;
 use net_types::NoMemory;
 use std::alloc::Global;
 use transcript_lines::ToldLine;

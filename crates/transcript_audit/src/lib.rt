@@ -7,6 +7,7 @@ mod laws;
 mod verdict;
 
 pub use auditing::audit;
+pub use iface_judge::IfaceJudge;
 pub use laws::a_verdict_is_one;
 pub use transcript_read::TranscriptAnswer as AuditAnswer;
 pub use verdict::Verdict;

@@ -6,3 +6,4 @@ pub mod LineReading
 pub mod LineSpellings
 pub mod Roles
 pub mod TurnFields
+pub use Rattle.transcript_text.specs as TranscriptText

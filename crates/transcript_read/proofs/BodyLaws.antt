@@ -24,7 +24,7 @@ use Rattle.replay_text.proofs.LineLaws.{FitsSpec}
 use Rattle.replay_text.proofs.Printables.{no_feed_in}
 use Rattle.replay_text.proofs.TakenLines.{cond_is}
 use Rattle.replay_text.proofs.TestLaws.{interfaces_sound, interfaces_whole}
-use Rattle.transcript_text.specs.Fits.{FitsLine}
+use Rattle.transcript_lines.specs.TranscriptText.Fits.{FitsLine}
 use Rattle.transcript_lines.specs.LineReading.{line_at}
 use Rattle.transcript_lines.specs.Roles.{role_of}
 use Rattle.transcript_lines.specs.LineSpellings.{IsTold, LinesAreRead}

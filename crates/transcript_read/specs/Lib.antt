@@ -4,3 +4,5 @@ pub mod Following
 pub mod Contents
 pub mod Heads
 pub mod Whole
+pub use Rattle.conf_text.specs as ConfText
+pub use Rattle.transcript_model.specs as TranscriptModel

@@ -10,7 +10,7 @@ use Rattle.net_types.specs.Cutting.{guarded, split_at_byte}
 use Rattle.net_types.specs.Marks.{Lacks}
 use Rattle.net_types.specs.Reads.{Reads}
 use Rattle.net_types.proofs.ReadsLaws.{guard_passed, guard_reads, mapped, passed, same_range, some_same, split_sound, split_whole, step}
-use Rattle.field_laws.specs.Fields.{Field}
+use Rattle.line_grammar.specs.FieldLaws.Fields.{Field}
 use Rattle.transcript_text.specs.FieldForms.{bytes_that, one_of, printed, split_at_last, told}
 use Rattle.transcript_text.specs.LineFields.{called, outcome_field}
 

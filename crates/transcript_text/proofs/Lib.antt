@@ -8,3 +8,4 @@ pub mod LinesLaws
 mod NetTexts
 mod ShapeLaws
 mod UpLaws
+pub use Rattle.net_types.proofs as NetTypes

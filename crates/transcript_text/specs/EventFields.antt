@@ -5,8 +5,8 @@ use Rattle.net_types.specs.Cutting.{Choices, choose_at}
 use Rattle.world.specs.declared.wakes.Event.{Event}
 use Rattle.world.specs.declared.wakes.Event.TheVariants.{Frame, Carrier, Duplicate, Release, Rebind, Stop, Quiet}
 use Rattle.script_model.specs.Lines.{event_text}
-use Rattle.field_laws.specs.Fields.{Field, parted}
-use Rattle.field_laws.specs.Kinds.{hex_field, ip6_field, no_field}
+use Rattle.line_grammar.specs.FieldLaws.Fields.{Field, parted}
+use Rattle.line_grammar.specs.FieldLaws.Kinds.{hex_field, ip6_field, no_field}
 use Rattle.transcript_text.specs.Fits.{FitsEvent}
 use Rattle.transcript_text.specs.LineFields.{carrier_field, index_field}
 use Rattle.transcript_text.specs.Shapes.{Shape, choice_of}

@@ -2,7 +2,7 @@
 use Rattle.std.specs.Prelude.{ℕ, ◌<◌, Bool, List, reverse, find, decimal, bytes_eq, Option, Some, option_map, IsTrue, if◌then◌else◌}
 use Rattle.net_types.specs.Cutting.{guarded, split_at_byte}
 use Rattle.net_types.specs.Numbers.{number_at}
-use Rattle.field_laws.specs.Fields.{Field}
+use Rattle.line_grammar.specs.FieldLaws.Fields.{Field}
 
 -- a number below a limit
 abbrev pub number_below : ℕ → Field ℕ

@@ -6,3 +6,6 @@ pub mod LineFields
 pub mod LineShapes
 pub mod Printed
 pub mod Shapes
+pub use Rattle.net_types.specs as NetTypes
+pub use Rattle.script_model.specs as ScriptModel
+pub use Rattle.world.specs as World

@@ -22,7 +22,7 @@ use Rattle.world.specs.Rows.{IsRow}
 use Rattle.world.specs.StoreCalls.{Reading, Found, Missing, Unread}
 use Rattle.row_texts.specs.RowReading.{either, row_at}
 use Rattle.script_model.specs.Lines.{carrier_text, moment_text, outcome_text, poll_text, reading_text, up_text}
-use Rattle.field_laws.specs.Fields.{Field, parted}
+use Rattle.line_grammar.specs.FieldLaws.Fields.{Field, parted}
 use Rattle.transcript_text.specs.FieldForms.{bytes_that, number_below, one_of, printed, split_at_last, told}
 use Rattle.transcript_text.specs.Fits.{FitsMoment, FitsPoll, FitsReading, FitsVariable, IsWord}
 

@@ -10,8 +10,8 @@ use Rattle.world.specs.declared.rows.HostRow.{HostRow}
 use Rattle.world.specs.StoreCalls.{Reading}
 use Rattle.script_model.specs.Lines.{Line}
 use Rattle.script_model.specs.Lines as Model
-use Rattle.field_laws.specs.Fields.{parted, worded}
-use Rattle.field_laws.specs.Kinds.{hex_field, mac_field, name_field, no_field}
+use Rattle.line_grammar.specs.FieldLaws.Fields.{parted, worded}
+use Rattle.line_grammar.specs.FieldLaws.Kinds.{hex_field, mac_field, name_field, no_field}
 use Rattle.transcript_text.specs.EventFields.{Came, came_field}
 use Rattle.transcript_text.specs.LineFields.{called, count_field, file_field, index_field, job_field, moment_field, names_field, net_field, outcome_field, poll_field, reading_field, row_field, text_field, up_field, variable_field}
 use Rattle.transcript_text.specs.Shapes.{Shape, choice_of}

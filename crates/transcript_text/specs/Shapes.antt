@@ -1,6 +1,6 @@
 -- A shape of text: a word, the fields after it, and the value that they make.
 use Rattle.std.specs.Prelude.{ℕ, List, Option, option_map}
-use Rattle.field_laws.specs.Fields.{Field}
+use Rattle.line_grammar.specs.FieldLaws.Fields.{Field}
 
 pub record Shape (V X : Type 0) : Type 1 where
   pub word : List ℕ

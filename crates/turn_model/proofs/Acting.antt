@@ -5,12 +5,12 @@ use Rattle.world.specs.declared.rows.HostRow.{HostRow}
 use Rattle.world.specs.declared.wakes.Begin.{Begin}
 use Rattle.world.specs.declared.wakes.Wake.{Wake}
 use Rattle.world.specs.HostCalls.{HostTold}
-use Rattle.settings.specs.declared.interfaces.Managed.{Managed}
+use Rattle.client_model.specs.IfaceSettings.declared.interfaces.Managed.{Managed}
 use Rattle.hook_child.specs.Supervision.{Supervision}
 use Rattle.client_model.specs.Clients.{Client, ClientStep, rows_of}
 use Rattle.machine.specs.Moment.{moment_of}
-use Rattle.host_model.specs.HostTurn.{known_after}
-use Rattle.host_model.specs.ToldHost.{told_host}
+use Rattle.client_model.specs.HostModel.HostTurn.{known_after}
+use Rattle.client_model.specs.HostModel.ToldHost.{told_host}
 use Rattle.device_calls.specs.Programs.{Asks, Done, after}
 use Rattle.device_calls.specs.Worlds.{World, Told, Ran, run}
 use Rattle.device_calls.proofs.Programs.{run_after, ran_both}

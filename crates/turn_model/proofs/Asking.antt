@@ -4,7 +4,7 @@ use Rattle.net_types.proofs.CaseLaws.{gated}
 use Rattle.world.specs.declared.rows.HostRow.{HostRow}
 use Rattle.world.specs.HookCalls.{Job}
 use Rattle.world.specs.StoreCalls.{Reading}
-use Rattle.settings.specs.declared.interfaces.Managed.{Managed}
+use Rattle.client_model.specs.IfaceSettings.declared.interfaces.Managed.{Managed}
 use Rattle.hook_child.specs.declared.child.Child.{Child}
 use Rattle.hook_child.specs.Supervision as child
 use Rattle.hook_child.specs.Supervision.{Supervision, Order, is_full, numbered, after_put, poll_order, after_poll, next_order, after_next}
@@ -12,8 +12,8 @@ use Rattle.client_model.specs.declared.interfaces.Iface.{Iface}
 use Rattle.client_model.specs.ClientSettings.{runs_dhcp4}
 use Rattle.client_model.specs.ClientSettings6.{runs_dhcp6, some_need_duid}
 use Rattle.client_model.specs.Clients.{Sending}
-use Rattle.host_model.specs.declared.changes.HostChange.{HostChange}
-use Rattle.host_model.specs.HostTurn.{changes}
+use Rattle.client_model.specs.HostModel.declared.changes.HostChange.{HostChange}
+use Rattle.client_model.specs.HostModel.HostTurn.{changes}
 use Rattle.device_calls.specs.Calls.{Ask, AnswerTo, Offer, ListRows, Change, ListAsides, Read, WriteAside, SyncAside, RenameAside, RemoveFile, Settle, Start, Poll, Abandon, Drop}
 use Rattle.device_calls.specs.Programs.{Asks, Done, Then, after}
 use Rattle.turn_model.specs.KeptFiles.{KeptFile, wanted_in, if_done, bringing, is_settled, keeping_one, keeping, known_after}

@@ -7,7 +7,7 @@ use Rattle.std.proofs.lemmas.Slice.Eq.{bytes_eq-Decides}
 use Rattle.net_types.specs.NameText.{name_text}
 use Rattle.world.specs.FileNames.{aside_of, is_name}
 use Rattle.world.proofs.NameOrder.{unlike_name}
-use Rattle.settings.specs.declared.interfaces.Managed.{Managed}
+use Rattle.client_model.specs.IfaceSettings.declared.interfaces.Managed.{Managed}
 use Rattle.client_model.specs.ClientSettings.{runs_dhcp4}
 use Rattle.client_model.specs.ClientSettings6.{runs_dhcp6, some_need_duid}
 use Rattle.turn_model.specs.KeptFiles.{Keeps, Duid, Lease4, Lease6, Resolver}

@@ -8,7 +8,7 @@ use Rattle.world.specs.declared.rows.HostRow.{HostRow}
 use Rattle.world.specs.FileLists.{StoreFile, file_name}
 use Rattle.world.specs.LinkCalls.{Given}
 use Rattle.world.specs.NamedLists.{InNameOrder}
-use Rattle.settings.specs.declared.interfaces.Managed.{Managed}
+use Rattle.client_model.specs.IfaceSettings.declared.interfaces.Managed.{Managed}
 use Rattle.hook_child.specs.Supervision.{Supervision}
 use Rattle.client_model.specs.Clients.{ClientStep}
 use Rattle.device_calls.specs.Calls.{Call}

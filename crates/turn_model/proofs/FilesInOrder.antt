@@ -5,7 +5,7 @@ use Rattle.world.specs.FileLists.{file_name, file_at, put_file, drop_file, renam
 use Rattle.world.specs.FileNames.{aside_of}
 use Rattle.world.specs.LinkCalls.{Given}
 use Rattle.world.specs.NamedLists.{InNameOrder}
-use Rattle.settings.specs.declared.interfaces.Managed.{Managed}
+use Rattle.client_model.specs.IfaceSettings.declared.interfaces.Managed.{Managed}
 use Rattle.device_calls.specs.Calls.{Ask, AnswerTo, Offer, ListRows, Change, ListAsides, Read, WriteAside, SyncAside, RenameAside, RemoveFile, Settle, Start, Poll, Abandon, Drop}
 use Rattle.device_calls.specs.Programs.{Asks, Done, Then}
 use Rattle.device_calls.specs.Worlds.{World, Ran, run, answer_to, world_with}

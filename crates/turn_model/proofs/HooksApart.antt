@@ -8,7 +8,7 @@ use Rattle.world.specs.declared.rows.HostRow.{HostRow}
 use Rattle.world.specs.declared.wakes.Begin.{Begin}
 use Rattle.world.specs.declared.wakes.Wake.{Wake}
 use Rattle.world.specs.LinkCalls.{Given}
-use Rattle.settings.specs.declared.interfaces.Managed.{Managed}
+use Rattle.client_model.specs.IfaceSettings.declared.interfaces.Managed.{Managed}
 use Rattle.machine.specs.Moment.{moment_of}
 use Rattle.hook_child.specs.Supervision.{Supervision, idle}
 use Rattle.client_model.specs.Clients.{ClientStep, client_due, earlier, rows_of}

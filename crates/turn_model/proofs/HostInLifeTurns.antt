@@ -2,13 +2,13 @@
 use Rattle.std.proofs.Common.{ℕ, ◌≡◌, List, [], ◌∷◌, None, refl, sym, ap, subst, ◌∙◌}
 use Rattle.net_types.specs.declared.interface.IfSpec.{IfSpec}
 use Rattle.world.specs.LinkCalls.{Given}
-use Rattle.settings.specs.declared.interfaces.Managed.{Managed}
-use Rattle.settings.specs.ManagedRows.{SharesAreManaged}
+use Rattle.client_model.specs.IfaceSettings.declared.interfaces.Managed.{Managed}
+use Rattle.client_model.specs.IfaceSettings.ManagedRows.{SharesAreManaged}
 use Rattle.world.specs.declared.wakes.Begin.{Begin}
 use Rattle.client_model.specs.Clients.{Client, ClientStep, rows_of}
 use Rattle.machine.specs.Moment.{moment_of}
-use Rattle.host_model.specs.HostTable.{InRowOrder, other_rows, Wantable, Table, TrueTable, table_turned, unknown_table, NoneFails, Holds}
-use Rattle.host_model.proofs.HostTableTurns.{turn_true, turn_leaves_others, turn_holds}
+use Rattle.client_model.specs.HostModel.HostTable.{InRowOrder, other_rows, Wantable, Table, TrueTable, table_turned, unknown_table, NoneFails, Holds}
+use Rattle.client_model.proofs.HostModel.HostTableTurns.{turn_true, turn_leaves_others, turn_holds}
 use Rattle.client_model.proofs.SameInterfaces.{managed_in, all_opened, all_turned}
 use Rattle.client_model.proofs.HostTableWanted.{wantable}
 use Rattle.device_calls.specs.Calls.{Call}

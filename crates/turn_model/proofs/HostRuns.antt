@@ -4,10 +4,10 @@ use Rattle.std.specs.Prelude.{map, not}
 use Rattle.std.specs.List.{list_all}
 use Rattle.world.specs.declared.rows.HostRow.{HostRow}
 use Rattle.world.specs.HostCalls.{HostTold, Listed, host_answered}
-use Rattle.settings.specs.declared.interfaces.Managed.{Managed}
-use Rattle.host_model.specs.declared.changes.HostChange.{HostChange}
-use Rattle.host_model.specs.HostTurn.{changes, changes_from, learnt, change_call, change_calls, host_calls, applied, after_changes, known_after}
-use Rattle.host_model.specs.ToldHost.{change_from, told_changes, listing_from, told_host}
+use Rattle.client_model.specs.IfaceSettings.declared.interfaces.Managed.{Managed}
+use Rattle.client_model.specs.HostModel.declared.changes.HostChange.{HostChange}
+use Rattle.client_model.specs.HostModel.HostTurn.{changes, changes_from, learnt, change_call, change_calls, host_calls, applied, after_changes, known_after}
+use Rattle.client_model.specs.HostModel.ToldHost.{change_from, told_changes, listing_from, told_host}
 use Rattle.device_calls.specs.Calls.{Call, Host}
 use Rattle.device_calls.specs.Worlds.{World, fails_host, host_with, with_host, run}
 use Rattle.turn_model.specs.Turns.{known_with, changing, rows_on, hosting_listed, hosting}

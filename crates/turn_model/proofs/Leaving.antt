@@ -4,7 +4,7 @@ use Rattle.world.specs.declared.rows.HostRow.{HostRow}
 use Rattle.world.specs.HookCalls.{HooksTold, Job}
 use Rattle.world.specs.LinkCalls.{LinkTold}
 use Rattle.world.specs.StoreCalls.{StoreTold}
-use Rattle.settings.specs.declared.interfaces.Managed.{Managed}
+use Rattle.client_model.specs.IfaceSettings.declared.interfaces.Managed.{Managed}
 use Rattle.hook_child.specs.Supervision.{Supervision}
 use Rattle.client_model.specs.declared.interfaces.Iface.{Iface}
 use Rattle.client_model.specs.Clients.{Sending}

@@ -13,3 +13,7 @@ mod Keeping
 mod Reading
 pub mod FilesInLifeTurns
 pub mod FilesInOrder
+pub use Rattle.client_model.proofs.ArpAcd
+pub use Rattle.client_model.proofs as ClientModel
+pub use Rattle.device_calls.proofs as DeviceCalls
+pub use Rattle.machine.proofs as Machine

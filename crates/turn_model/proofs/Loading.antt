@@ -7,12 +7,12 @@ use Rattle.net_types.proofs.CaseLaws.{gated}
 use Rattle.net_types.specs.declared.interface.IfSpec.{IfSpec}
 use Rattle.net_types.specs.declared.interface.Name.{Name}
 use Rattle.net_types.specs.NameText.{name_text}
-use Rattle.lease_text.specs.Bounds.{HasText}
-use Rattle.lease_text.specs.Leases.{LeaseContent}
-use Rattle.lease6_text.specs.Bounds.{HasText6}
-use Rattle.lease6_text.specs.Leases.{Lease6Content}
+use Rattle.client_model.specs.LeaseText.Bounds.{HasText}
+use Rattle.client_model.specs.LeaseText.Leases.{LeaseContent}
+use Rattle.client_model.specs.Lease6Text.Bounds.{HasText6}
+use Rattle.client_model.specs.Lease6Text.Leases.{Lease6Content}
 use Rattle.world.specs.StoreCalls.{Reading, Found, Missing, Unread}
-use Rattle.settings.specs.declared.interfaces.Managed.{Managed}
+use Rattle.client_model.specs.IfaceSettings.declared.interfaces.Managed.{Managed}
 use Rattle.client_model.specs.ClientSettings.{runs_dhcp4}
 use Rattle.client_model.specs.ClientSettings6.{runs_dhcp6, some_need_duid}
 use Rattle.client_model.specs.KeptLeases.{Beginning, is_own, lease_spelled, own_lease, kept_by}

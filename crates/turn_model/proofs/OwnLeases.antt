@@ -9,9 +9,9 @@ use Rattle.net_types.specs.declared.address.Mac.{Mac}
 use Rattle.net_types.specs.declared.interface.IfSpec.{IfSpec}
 use Rattle.net_types.specs.declared.interface.Name.{Name}
 use Rattle.net_types.specs.NameText.{name_text}
-use Rattle.lease_text.specs.declared.lease.Origin.{Origin}
-use Rattle.lease_text.specs.Leases.{LeaseContent}
-use Rattle.lease6_text.specs.Leases.{Lease6Content}
+use Rattle.client_model.specs.LeaseText.declared.lease.Origin.{Origin}
+use Rattle.client_model.specs.LeaseText.Leases.{LeaseContent}
+use Rattle.client_model.specs.Lease6Text.Leases.{Lease6Content}
 use Rattle.world.specs.StoreCalls.{Reading, Found, Missing, Unread}
 use Rattle.client_model.specs.KeptLeases.{Beginning, is_granted_to, is_own, kept_by, lease_spelled, own_lease}
 use Rattle.client_model.specs.KeptLeases6.{kept6_by, lease6_spelled, own_lease6}

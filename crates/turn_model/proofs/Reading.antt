@@ -8,7 +8,7 @@ use Rattle.world.specs.NamedLists.{InNameOrder}
 use Rattle.world.specs.StoreCalls as store
 use Rattle.world.specs.StoreCalls.{Reading, reading_of}
 use Rattle.world.proofs.NameOrder.{drop_in_order}
-use Rattle.settings.specs.declared.interfaces.Managed.{Managed}
+use Rattle.client_model.specs.IfaceSettings.declared.interfaces.Managed.{Managed}
 use Rattle.client_model.specs.ClientSettings.{runs_dhcp4}
 use Rattle.client_model.specs.ClientSettings6.{runs_dhcp6, some_need_duid}
 use Rattle.client_model.specs.HostDuid.{host_duid}

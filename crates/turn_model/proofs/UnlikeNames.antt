@@ -7,9 +7,9 @@ use Rattle.net_types.specs.declared.interface.IfSpec.{IfSpec}
 use Rattle.net_types.specs.NameText.{name_text}
 use Rattle.net_types.proofs.ReadsLaws.{texts_apart}
 use Rattle.net_types.proofs.NameLaws.{name_reads}
-use Rattle.settings.specs.Fitting.{FitsManaged, AreManaged}
-use Rattle.settings.specs.declared.interfaces.Managed.{Managed}
-use Rattle.script_model.specs.Scripts.{Unlike}
+use Rattle.client_model.specs.IfaceSettings.Fitting.{FitsManaged, AreManaged}
+use Rattle.client_model.specs.IfaceSettings.declared.interfaces.Managed.{Managed}
+use Rattle.client_model.specs.ScriptModel.Scripts.{Unlike}
 use Rattle.turn_model.specs.FilesInLife.{UnlikeAreNamedApart}
 
 abbrev specs_of : List Managed → List IfSpec

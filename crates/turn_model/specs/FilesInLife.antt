@@ -7,9 +7,9 @@ use Rattle.world.specs.FileLists.{file_name, file_at}
 use Rattle.world.specs.LinkCalls.{Given}
 use Rattle.world.specs.NamedLists.{InNameOrder}
 use Rattle.world.specs.StoreCalls.{StoreCall, ListedAsides, ReadFile, WroteAside, SyncedAside, RenamedAside, RemovedFile, SettledFiles}
-use Rattle.settings.specs.declared.interfaces.Managed.{Managed}
-use Rattle.settings.specs.Fitting.{AreManaged}
-use Rattle.script_model.specs.Scripts.{Unlike}
+use Rattle.client_model.specs.IfaceSettings.declared.interfaces.Managed.{Managed}
+use Rattle.client_model.specs.IfaceSettings.Fitting.{AreManaged}
+use Rattle.client_model.specs.ScriptModel.Scripts.{Unlike}
 use Rattle.client_model.specs.ClientSettings.{runs_dhcp4}
 use Rattle.client_model.specs.ClientSettings6.{runs_dhcp6, some_need_duid}
 use Rattle.device_calls.specs.Calls.{Call, store_call}

@@ -7,8 +7,8 @@ use Rattle.world.specs.HostCalls.{HostTold}
 use Rattle.world.specs.LinkCalls.{Given, frame_len, cut_wake, waited}
 use Rattle.world.specs.StoreCalls.{StoreTold}
 use Rattle.world.specs.StoreFails.{StoreFails}
-use Rattle.settings.specs.declared.interfaces.Managed.{Managed}
-use Rattle.script_model.specs.Scripts.{frame_room}
+use Rattle.client_model.specs.IfaceSettings.declared.interfaces.Managed.{Managed}
+use Rattle.client_model.specs.ScriptModel.Scripts.{frame_room}
 use Rattle.device_calls.specs.Worlds.{Told, World, Ran, run, with_link}
 use Rattle.turn_model.specs.Turns.{Life, turn_asks, until, is_over, is_end}
 use Rattle.turn_model.specs.Opening.{opening_asks}

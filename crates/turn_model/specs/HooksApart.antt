@@ -4,7 +4,7 @@ use Rattle.net_types.specs.declared.interface.IfSpec.{IfSpec}
 use Rattle.world.specs.declared.rows.HostRow.{HostRow}
 use Rattle.world.specs.declared.wakes.Wake.{Wake}
 use Rattle.world.specs.HookCalls.{HooksTold}
-use Rattle.settings.specs.declared.interfaces.Managed.{Managed}
+use Rattle.client_model.specs.IfaceSettings.declared.interfaces.Managed.{Managed}
 use Rattle.client_model.specs.Clients.{Client}
 use Rattle.device_calls.specs.Calls.{Call, Link, Host, Store, Hook, Dropped}
 use Rattle.device_calls.specs.Worlds.{Told, World}

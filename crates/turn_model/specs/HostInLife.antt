@@ -3,10 +3,10 @@ use Rattle.std.specs.Prelude.{◌≡◌, ℕ, List, [], ◌∷◌}
 use Rattle.net_types.specs.declared.interface.IfSpec.{IfSpec}
 use Rattle.world.specs.declared.rows.HostRow.{HostRow}
 use Rattle.world.specs.LinkCalls.{Given}
-use Rattle.settings.specs.declared.interfaces.Managed.{Managed}
-use Rattle.settings.specs.ManagedRows.{SharesAreManaged}
+use Rattle.client_model.specs.IfaceSettings.declared.interfaces.Managed.{Managed}
+use Rattle.client_model.specs.IfaceSettings.ManagedRows.{SharesAreManaged}
 use Rattle.client_model.specs.Clients.{rows_of}
-use Rattle.host_model.specs.HostTable.{Table, NoneFails, Holds, InRowOrder, other_rows, unknown_table}
+use Rattle.client_model.specs.HostModel.HostTable.{Table, NoneFails, Holds, InRowOrder, other_rows, unknown_table}
 use Rattle.device_calls.specs.Worlds.{World}
 use Rattle.turn_model.specs.Turns.{Life}
 use Rattle.turn_model.specs.Foretold.{ran_opening, ran_turn}

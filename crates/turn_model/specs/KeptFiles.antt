@@ -1,9 +1,9 @@
 -- The files that a life keeps: what is known of each, what it is to hold, and what is asked to bring that about.
 use Rattle.std.specs.Prelude.{ℕ, ◌+◌, bytes_eq, Bool, true, false, if◌then◌else◌, List, [], ◌∷◌, Option, Some, None, is_none, option_map}
 use Rattle.std.specs.List.{list_any}
-use Rattle.lease_text.specs.LeaseLines.{lease4_text}
-use Rattle.lease6_text.specs.LeaseLines.{lease6_text}
-use Rattle.duid_text.specs.DuidTexts.{duid_text}
+use Rattle.client_model.specs.LeaseText.LeaseLines.{lease4_text}
+use Rattle.client_model.specs.Lease6Text.LeaseLines.{lease6_text}
+use Rattle.client_model.specs.DuidText.DuidTexts.{duid_text}
 use Rattle.client_model.specs.declared.interfaces.Iface.{Iface}
 use Rattle.client_model.specs.Clients.{kept_lease, kept_lease6}
 use Rattle.client_model.specs.ResolverParts.{resolver_wanted}

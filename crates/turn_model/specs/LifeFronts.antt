@@ -4,7 +4,7 @@ use Rattle.net_types.specs.declared.interface.IfSpec.{IfSpec}
 use Rattle.world.specs.declared.wakes.Begin.{Begin}
 use Rattle.world.specs.declared.wakes.Wake.{Wake}
 use Rattle.world.specs.LinkCalls.{Waited}
-use Rattle.settings.specs.declared.interfaces.Managed.{Managed}
+use Rattle.client_model.specs.IfaceSettings.declared.interfaces.Managed.{Managed}
 use Rattle.device_calls.specs.Calls.{Call, Link}
 use Rattle.device_calls.specs.Fronts.{Fronts}
 use Rattle.turn_model.specs.Turns.{Life, turn_asks, until, is_over, is_end}

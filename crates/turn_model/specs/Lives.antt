@@ -6,10 +6,10 @@ use Rattle.world.specs.declared.wakes.Wake.{Wake}
 use Rattle.world.specs.declared.rows.HostRow.{HostRow}
 use Rattle.world.specs.declared.rows.HostRow.TheVariants.{Addr, Route}
 use Rattle.world.specs.LinkCalls.{Waited}
-use Rattle.settings.specs.declared.interfaces.Managed.{Managed}
+use Rattle.client_model.specs.IfaceSettings.declared.interfaces.Managed.{Managed}
 use Rattle.client_model.specs.Clients.{rows_of}
-use Rattle.script_model.specs.Lines as lines
-use Rattle.script_model.specs.Lines.{Line}
+use Rattle.client_model.specs.ScriptModel.Lines as lines
+use Rattle.client_model.specs.ScriptModel.Lines.{Line}
 use Rattle.device_calls.specs.Calls.{Call, Link}
 use Rattle.device_calls.specs.CallLines.{lines_of}
 use Rattle.device_calls.specs.Programs.{Makes}

@@ -4,8 +4,8 @@ use Rattle.std.specs.List.{AllByRecursion}
 use Rattle.net_types.specs.declared.interface.IfSpec.{IfSpec}
 use Rattle.net_types.specs.declared.interface.Name.{Name}
 use Rattle.net_types.specs.NameText.{name_text}
-use Rattle.lease_text.specs.declared.lease.Origin.{Origin}
-use Rattle.settings.specs.declared.interfaces.Managed.{Managed}
+use Rattle.client_model.specs.LeaseText.declared.lease.Origin.{Origin}
+use Rattle.client_model.specs.IfaceSettings.declared.interfaces.Managed.{Managed}
 use Rattle.client_model.specs.KeptLeases.{Beginning}
 use Rattle.turn_model.specs.Loading.{FilesLoaded, beginnings_of}
 

@@ -6,13 +6,13 @@ use Rattle.world.specs.declared.wakes.Event.TheVariants.{Stop, End}
 use Rattle.world.specs.declared.wakes.Wake.{Wake}
 use Rattle.world.specs.declared.rows.HostRow.{HostRow}
 use Rattle.world.specs.RowOrder.{in_row_order}
-use Rattle.settings.specs.declared.interfaces.Managed.{Managed}
-use Rattle.settings.specs.ManagedRows.{is_managed}
+use Rattle.client_model.specs.IfaceSettings.declared.interfaces.Managed.{Managed}
+use Rattle.client_model.specs.IfaceSettings.ManagedRows.{is_managed}
 use Rattle.client_model.specs.IfaceTurns.{Turn}
 use Rattle.client_model.specs.Clients.{Client, ClientStep, Sending, client_turned, client_due, earlier, rows_of}
 use Rattle.machine.specs.Moment.{moment_of}
-use Rattle.host_model.specs.declared.changes.HostChange.{HostChange}
-use Rattle.host_model.specs.HostTurn.{changes, applied}
+use Rattle.client_model.specs.HostModel.declared.changes.HostChange.{HostChange}
+use Rattle.client_model.specs.HostModel.HostTurn.{changes, applied}
 use Rattle.device_calls.specs.Calls.{Offer, ListRows, Change}
 use Rattle.device_calls.specs.Programs.{Asks, Done, Then, after}
 use Rattle.hook_child.specs.Supervision.{Supervision}

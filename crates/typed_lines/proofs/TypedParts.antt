@@ -1,7 +1,7 @@
 -- Lines one after another are typed where each of both parts are.
 use Rattle.std.proofs.Common.{List, [], ◌∷◌, ◌++◌}
-use Rattle.net_types.proofs.AllLaws.{all_join}
-use Rattle.script_model.specs.Lines.{Line}
+use Rattle.transcript_text.proofs.NetTypes.AllLaws.{all_join}
+use Rattle.transcript_text.specs.ScriptModel.Lines.{Line}
 use Rattle.typed_lines.specs.TypedLines.{AreTyped, IsTyped}
 
 pub typed_both : (a b : List Line) → AreTyped a → AreTyped b → AreTyped (a ++ b)

@@ -1,1 +1,2 @@
 pub mod TypedLines
+pub use Rattle.transcript_text.specs.ScriptModel

@@ -1,10 +1,10 @@
 -- Lines within the types that hold them.
 use Rattle.std.specs.Prelude.{List}
 use Rattle.std.specs.List.{AllByRecursion}
-use Rattle.net_types.specs.Marks.{AreBytes}
-use Rattle.world.specs.declared.rows.HostRow.TheVariants.{Addr}
-use Rattle.world.specs.Rows.{IsRow}
-use Rattle.script_model.specs.Lines.{Line, Hold, HostAdd, Send, Until, Wrote}
+use Rattle.transcript_text.specs.NetTypes.Marks.{AreBytes}
+use Rattle.transcript_text.specs.World.declared.rows.HostRow.TheVariants.{Addr}
+use Rattle.transcript_text.specs.World.Rows.{IsRow}
+use Rattle.transcript_text.specs.ScriptModel.Lines.{Line, Hold, HostAdd, Send, Until, Wrote}
 use Rattle.transcript_text.specs.Fits.{FitsMoment}
 
 -- What a line tells is within the types that hold it, as that of every line in memory is: bytes that are written and

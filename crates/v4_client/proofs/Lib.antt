@@ -11,3 +11,5 @@ pub mod Probed
 pub mod Expiring
 pub mod InTime
 mod Room
+pub use Rattle.arp_acd.proofs as ArpAcd
+pub use Rattle.lease_text.proofs as LeaseText

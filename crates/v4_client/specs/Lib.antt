@@ -21,3 +21,9 @@ pub mod Laws
 pub mod Origins
 pub mod Probes
 pub mod InTime
+pub use Rattle.arp_acd.specs as ArpAcd
+pub use Rattle.lease_text.specs as LeaseText
+pub use Rattle.machine.specs as Machine
+pub use Rattle.settings.specs as IfaceSettings
+pub use Rattle.v4_frames.specs as V4Frames
+pub use Rattle.v4_message.specs as V4Message

@@ -6,3 +6,4 @@ pub mod AreaSteps
 pub mod Numbers
 pub mod Routes
 pub mod AreaGrammar
+pub use Rattle.domain_names.specs as DomainNames

@@ -5,8 +5,8 @@ use Rattle.net_types.specs.Moments.{IsMoment}
 use Rattle.net_types.proofs.AllLaws.{all_join, all_map}
 use Rattle.net_types.proofs.CaseLaws.{gated, split}
 use Rattle.v6_options.specs.declared.code.TheConstants.{DNS_SERVERS, DOMAIN_LIST}
-use Rattle.lease_text.specs.Bounds.{IsRising}
-use Rattle.lease_text.specs.Leases.{ValueContent}
+use Rattle.lease6_text.specs.LeaseText.Bounds.{IsRising}
+use Rattle.lease6_text.specs.LeaseText.Leases.{ValueContent}
 use Rattle.lease6_text.specs.Bounds.{FitsIa, FitsIas, FitsItem, FitsLease6, FitsMoment, FitsValue6, FitsValues6}
 use Rattle.lease6_text.specs.Leases.{IaLeaseContent, Lease6Content}
 use Rattle.lease6_text.specs.ValueForms.{is_kept6, is_well_formed6}

@@ -14,3 +14,4 @@ pub mod OwnGrants
 pub mod StayingRuns
 pub mod TimedReplies
 pub mod KeptOrigins
+pub use Rattle.lease6_text.proofs as Lease6Text

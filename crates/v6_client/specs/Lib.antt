@@ -27,3 +27,5 @@ pub mod QuietLaws
 pub mod OwnLeases
 pub mod RunsStay
 pub mod Origins
+pub use Rattle.lease6_text.specs as Lease6Text
+pub use Rattle.v6_message.specs as V6Message

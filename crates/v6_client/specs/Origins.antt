@@ -2,7 +2,7 @@
 use Rattle.std.specs.Prelude.{◌≡◌, ◌⊎◌, ℕ, Option, Some, IfSome}
 use Rattle.net_types.specs.declared.address.Ip6.{Ip6}
 use Rattle.v6_message.specs.Replies.{Content6}
-use Rattle.lease_text.specs.declared.lease.Origin.{Origin}
+use Rattle.lease6_text.specs.LeaseText.declared.lease.Origin.{Origin}
 use Rattle.lease6_text.specs.Leases.{Lease6Content}
 use Rattle.v6_client.specs.declared.states.Carrier6.{Carrier6}
 use Rattle.v6_client.specs.declared.states.Tell6.{Tell6}

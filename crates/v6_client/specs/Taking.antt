@@ -8,8 +8,8 @@ use Rattle.v6_options.specs.declared.code.TheConstants.{DNS_SERVERS, DOMAIN_LIST
 use Rattle.v6_options.specs.declared.ia.ItemSaid.{ItemSaid}
 use Rattle.v6_options.specs.Ias.{IaContent}
 use Rattle.v6_message.specs.Replies.{Content6}
-use Rattle.lease_text.specs.declared.lease.Origin.{Origin}
-use Rattle.lease_text.specs.Leases.{ValueContent}
+use Rattle.lease6_text.specs.LeaseText.declared.lease.Origin.{Origin}
+use Rattle.lease6_text.specs.LeaseText.Leases.{ValueContent}
 use Rattle.lease6_text.specs.declared.lease.Item6.{Item6}
 use Rattle.lease6_text.specs.declared.lease.TheConstants.{ITEM_LIMIT}
 use Rattle.lease6_text.specs.Leases.{IaLeaseContent, Lease6Content}

@@ -3,7 +3,7 @@
 ghost use Rattle.std.specs.Prelude.{◌≡◌, ◌++◌, ◌<◌, length, option_map, IfOk, IfSome, OnOk};
 ghost use Rattle.v6_options.specs.IaViews.{ia_shown};
 ghost use Rattle.v6_message.specs.Shown.{message_shown};
-ghost use Rattle.lease_text.specs.Leases.{values_content};
+ghost use Rattle.lease6_text.specs.LeaseText.Leases.{values_content};
 ghost use Rattle.lease6_text.specs.Leases.{ias_content, lease6_content};
 ghost use Rattle.v6_client.specs.Taking as taking;
 ghost use Rattle.v6_client.specs.Taking.{IsTimedFor};
@@ -23,8 +23,7 @@ use crate::renewing::{Spans6, joined, spans_of, t1_from, t2_from};
 use crate::setup::IaAsk;
 use crate::states::Scope6;
 use crate::times::moment_after;
-use lease_text::{Origin, Value};
-use lease6_text::{ITEM_LIMIT, IaLease, Item6, Lease6, is_well_formed6};
+use lease6_text::{ITEM_LIMIT, IaLease, Item6, Lease6, Origin, Value, is_well_formed6};
 use net_types::{IfSpec, Net6, NoMemory};
 use std::alloc::{AllocError, Global};
 use v6_message::Msg6;

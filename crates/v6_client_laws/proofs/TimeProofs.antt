@@ -5,7 +5,7 @@ use Rattle.std.specs.Option.{option_and_then}
 use Rattle.std.proofs.lemmas.Bool.{and_parts, eqb-false, eqb-true}
 use Rattle.net_types.proofs.CaseLaws.{gated, split}
 use Rattle.v6_options.specs.Ias.{IaContent}
-use Rattle.v6_message.specs.Replies.{Content6}
+use Rattle.v6_client.specs.V6Message.Replies.{Content6}
 use Rattle.lease6_text.specs.Leases.{Lease6Content}
 use Rattle.v6_client.specs.declared.renewing.Spans6.{Spans6}
 use Rattle.v6_client.specs.declared.setup.IaAsk.{IaAsk}

@@ -2,7 +2,7 @@
 use Rattle.std.specs.Prelude.{◌≡◌, ◌≢◌, ◌≤◌, ℕ, List, length, Some, None}
 use Rattle.net_types.specs.Fields.{u16_field}
 use Rattle.udp_frame.specs.declared.udp6.TheConstants.{KIND_IPV6}
-use Rattle.v6_options.specs.declared.duid.Duid.{Duid}
+use Rattle.v6_message.specs.V6Options.declared.duid.Duid.{Duid}
 use Rattle.v6_message.specs.declared.said.Said6.{Said6}
 use Rattle.v6_message.specs.Requests.{said_content, message6_text}
 use Rattle.v6_frames.specs.InRange.{FitsSent6}

@@ -7,7 +7,7 @@ use Rattle.udp_frame.specs.declared.dhcp6.TheConstants.{CLIENT_PORT, SERVER_PORT
 use Rattle.udp_frame.specs.declared.udp6.Ends6.{Ends6}
 use Rattle.udp_frame.specs.LinkLocal6.{link_local}
 use Rattle.udp_frame.specs.Udp6Frames.{udp6_frame_text}
-use Rattle.v6_options.specs.declared.duid.Duid.{Duid}
+use Rattle.v6_message.specs.V6Options.declared.duid.Duid.{Duid}
 use Rattle.v6_message.specs.declared.said.Said6.{Said6}
 use Rattle.v6_message.specs.Requests.{SaidContent, said_content, message6_text}
 use Rattle.v6_message.specs.ReadBack.{said6_in}

@@ -9,8 +9,7 @@ use udp_frame::dhcp6::{
     ALL_RELAY_AGENTS_AND_SERVERS, ALL_RELAY_AGENTS_AND_SERVERS_MAC, CLIENT_PORT, SERVER_PORT,
 };
 use udp_frame::{Ends6, build_udp6, link_local_of};
-use v6_message::{Said6, write6};
-use v6_options::Duid;
+use v6_message::{Duid, Said6, write6};
 
 /// The ends of what the client at the interface with this hardware address says: from its link-local address to
 /// all servers and relay agents of the link (RFC 8415, section 13).

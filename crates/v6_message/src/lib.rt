@@ -12,4 +12,5 @@ pub use kind::{Kind6, ServerKind6};
 pub use laws::said_is_read_back;
 pub use reading::{Bad6, Msg6, ias_of, read6};
 pub use said::{IaAsked, Said6};
+pub use v6_options::Duid;
 pub use writing::write6;

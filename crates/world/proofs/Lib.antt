@@ -6,3 +6,4 @@ pub mod SoundCalls
 pub mod SoundSteps
 pub mod SoundRenames
 pub mod SoundLaws
+pub use Rattle.net_types.proofs as NetTypes

@@ -16,3 +16,4 @@ pub mod SoundStores
 pub mod HostCalls
 pub mod HookCalls
 pub mod RowText
+pub use Rattle.net_types.specs as NetTypes

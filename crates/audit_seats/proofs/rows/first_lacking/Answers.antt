@@ -2,7 +2,7 @@ use Rattle.std.proofs.Common.{◌≡◌, Bool, false, not, List, ◌∷◌, None
 use Rattle.std.specs.Prelude.{if◌then◌else◌}
 use Rattle.std.specs.List.{find}
 use Rattle.world.specs.declared.rows.HostRow.{HostRow}
-use Rattle.audit_model.specs.Auditing.{is_just}
+use Rattle.audit_turns.specs.AuditModel.Auditing.{is_just}
 use Rattle.audit_turns.specs.Goings.{Going}
 use Rattle.audit_seats.specs.Seats.{sites_of}
 use Rattle.audit_seats.specs.Tests.{judged_by}

@@ -1,8 +1,8 @@
 -- All rows so far rest on the turns.
 use Rattle.std.proofs.Common.{◌≡◌, List, not}
 use Rattle.std.specs.List.{find}
-use Rattle.evidence_words.specs.Entries.{Entry}
-use Rattle.evidence_words.specs.IfaceLives.{now_in}
+use Rattle.audit_words.specs.EvidenceWords.Entries.{Entry}
+use Rattle.audit_words.specs.EvidenceWords.IfaceLives.{now_in}
 use Rattle.audit_seats.specs.Seats.{AllTell, sites_of}
 use Rattle.audit_seats.specs.Tests.{row_rests}
 use Rattle.audit_seats.proofs.rows.first_unjust.Given as goal

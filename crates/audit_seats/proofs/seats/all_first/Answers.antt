@@ -1,6 +1,6 @@
 use Rattle.std.proofs.Common.{◌≡◌, List, [], ◌∷◌, ◌++◌, sym, ap, subst, ◌∙◌, append_assoc, map}
 use Rattle.std.proofs.lemmas.List.{map-append}
-use Rattle.evidence_words.specs.Inputs.{Site}
+use Rattle.audit_words.specs.EvidenceWords.Inputs.{Site}
 use Rattle.audit_words.specs.Shown.{site_shown}
 use Rattle.audit_seats.specs.declared.seats.Watched.{Watched}
 use Rattle.audit_seats.specs.Seats.{AllTell, sites_of}

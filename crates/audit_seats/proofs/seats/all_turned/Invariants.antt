@@ -1,6 +1,6 @@
 -- Those up to here are after the turn, and the others before it.
 use Rattle.std.proofs.Common.{◌≡◌, ◌∷◌, ◌≤◌, List, length}
-use Rattle.evidence_words.specs.Entries.{Entry}
+use Rattle.audit_words.specs.EvidenceWords.Entries.{Entry}
 use Rattle.audit_words.specs.Shown.{entry_shown, site_shown}
 use Rattle.audit_seats.specs.Seats.{AllTell, sites_of}
 use Rattle.audit_seats.proofs.LoopLaws.{AllPast}

@@ -1,5 +1,5 @@
 use Rattle.std.proofs.Common.{◌≡◌, Bool, List, sym, ◌∙◌}
-use Rattle.evidence_words.specs.Entries.{Entry}
+use Rattle.audit_words.specs.EvidenceWords.Entries.{Entry}
 use Rattle.audit_words.specs.Shown.{site_shown}
 use Rattle.audit_seats.specs.declared.seats.Watched.{Watched}
 use Rattle.audit_seats.specs.Tests.{rests_at}

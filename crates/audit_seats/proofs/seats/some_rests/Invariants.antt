@@ -1,8 +1,8 @@
 -- The address rests at none so far.
 use Rattle.std.proofs.Common.{◌≡◌, List, drop}
 use Rattle.std.specs.List.{list_any}
-use Rattle.evidence_words.specs.Entries.{Entry}
-use Rattle.evidence_words.specs.IfaceLives.{now_in}
+use Rattle.audit_words.specs.EvidenceWords.Entries.{Entry}
+use Rattle.audit_words.specs.EvidenceWords.IfaceLives.{now_in}
 use Rattle.audit_words.specs.Shown.{site_shown}
 use Rattle.audit_seats.specs.Seats.{AllTell}
 use Rattle.audit_seats.specs.Tests.{rests_at}

@@ -1,6 +1,6 @@
 -- None of the files so far has the name.
 use Rattle.std.proofs.Common.{◌≡◌, drop}
-use Rattle.evidence_words.specs.HostDuids.{read_among}
+use Rattle.audit_words.specs.EvidenceWords.HostDuids.{read_among}
 use Rattle.audit_sites.specs.Reads.{reads_of}
 use Rattle.audit_sites.proofs.reads.first_reading.Given as goal
 

@@ -3,8 +3,8 @@ use Rattle.std.specs.List.{AllByRecursion}
 use Rattle.std.proofs.lemmas.List.{map-append}
 use Rattle.settings.specs.declared.interfaces.Managed.{Managed}
 use Rattle.settings.specs.Fitting.{AreManaged, FitsManaged}
-use Rattle.evidence_words.specs.Inputs.{Site}
-use Rattle.audit_model.specs.Showing.{site_by}
+use Rattle.audit_words.specs.EvidenceWords.Inputs.{Site}
+use Rattle.audit_seats.specs.AuditModel.Showing.{site_by}
 use Rattle.audit_words.specs.Shown.{site_shown}
 use Rattle.audit_seats.proofs.LoopLaws.{all_gone, all_last, map_with}
 use Rattle.audit_sites.specs.Reads.{reads_of}

@@ -1,9 +1,9 @@
 use Rattle.std.proofs.Common.{◌≡◌, ◌++◌, List, map}
 use Rattle.settings.specs.declared.interfaces.Managed.{Managed}
-use Rattle.client_model.specs.HostDuid.{host_duid}
-use Rattle.turn_model.specs.Loading.{duid_file}
-use Rattle.evidence_words.specs.HostDuids.{read_among}
-use Rattle.audit_model.specs.Showing.{site_by}
+use Rattle.kept_files.specs.ClientModel.HostDuid.{host_duid}
+use Rattle.audit_seats.specs.TurnModel.Loading.{duid_file}
+use Rattle.audit_words.specs.EvidenceWords.HostDuids.{read_among}
+use Rattle.audit_seats.specs.AuditModel.Showing.{site_by}
 use Rattle.audit_words.specs.Shown.{site_shown}
 use Rattle.audit_sites.specs.Reads.{reads_of}
 use Rattle.audit_sites.proofs.sites.seats_with.Given as goal

@@ -1,4 +1,4 @@
-use Rattle.lease_evidence.proofs.Joining.{LeaseRelation}
+use Rattle.lease6_evidence.proofs.LeaseEvidence.Joining.{LeaseRelation}
 use Rattle.evidence.proofs.Based.{have_basis, others_have_basis}
 use Rattle.evidence.proofs.Items.{items_have_basis}
 use Rattle.evidence.proofs.Leasing.{leases_based}

@@ -6,10 +6,10 @@ use Rattle.frame_link.specs.Packets.{arp_in, announcement_text}
 use Rattle.host_model.specs.Precedence.{outranks}
 use Rattle.v6_client.specs.Runs.{carrier_turned, tick_turned}
 use Rattle.client_model.specs.ResolverParts.{resolver_wanted}
-use Rattle.turn_model.specs.Turns.{turn_asks}
-use Rattle.turn_model.specs.Opening.{opening_asks}
-use Rattle.turn_model.specs.HostInLife.{running_opened}
-use Rattle.lease_evidence.specs.PlainIface.{client_mac}
+use Rattle.evidence_words.specs.TurnModel.Turns.{turn_asks}
+use Rattle.evidence_words.specs.TurnModel.Opening.{opening_asks}
+use Rattle.evidence_words.specs.TurnModel.HostInLife.{running_opened}
+use Rattle.lease6_evidence.specs.LeaseEvidence.PlainIface.{client_mac}
 use Rattle.evidence.specs.SevenTurns.{chosen, interface, devices, seven_given}
 use Rattle.evidence.proofs.HostRests.{are_made, is_opening}
 use Rattle.local_evidence.proofs.Announced.{one_address}

@@ -1,5 +1,5 @@
 use Rattle.std.proofs.Common.{◌≡◌, ◌∷◌, List, ◌∙◌}
-use Rattle.lease_evidence.specs.Exchanges.{seen_in}
+use Rattle.share_judge.specs.LeaseEvidence.Exchanges.{seen_in}
 use Rattle.audit_words.specs.Shown.{entry_shown, site_shown}
 use Rattle.iface_judge.proofs.KeptTurns.{answer_same}
 use Rattle.iface_judge.proofs.keeping.kept4_turned.Goals as goal

@@ -1,6 +1,6 @@
 use Rattle.std.proofs.Common.{◌≡◌, ◌∷◌, List, ap, ◌∙◌}
-use Rattle.lease6_evidence.specs.Exchanges6.{seen6_in}
-use Rattle.lease6_evidence.specs.Replies6.{message6_at}
+use Rattle.item_judge.specs.Lease6Evidence.Exchanges6.{seen6_in}
+use Rattle.item_judge.specs.Lease6Evidence.Replies6.{message6_at}
 use Rattle.audit_words.specs.Shown.{entry_shown, site_shown}
 use Rattle.audit_words.specs.declared.shown.Offer.{Offer}
 use Rattle.iface_judge.specs.Telling.{spoken_by}

@@ -1,7 +1,7 @@
 use Rattle.std.proofs.Common.{◌≡◌, ℕ, suc, ◌+◌, ◌<◌, ◌≤◌, List, [], ◌∷◌, ◌++◌, ◌∙◌, drop, length, map, sym, subst, ap, arith, append_assoc}
 use Rattle.std.proofs.lemmas.List.{append-nil}
 use Rattle.settings.specs.declared.dhcp6_conf.IaConf.{IaConf}
-use Rattle.client_model.specs.ClientSettings6.{ask_for}
+use Rattle.evidence_words.specs.ClientModel.ClientSettings6.{ask_for}
 use Rattle.item_judge.specs.declared.table.ItemTable.{ItemTable}
 use Rattle.item_judge.specs.Judging.{TellsTables}
 use Rattle.item_judge.proofs.OwnWalks.{first_more, none_after}

@@ -1,5 +1,5 @@
 use Rattle.std.proofs.Common.{List, [], ◌++◌, drop, map}
-use Rattle.client_model.specs.ClientSettings6.{ask_for}
+use Rattle.evidence_words.specs.ClientModel.ClientSettings6.{ask_for}
 use Rattle.evidence_words.specs.Inputs.{Site}
 use Rattle.item_judge.specs.declared.table.ItemTable.{ItemTable}
 use Rattle.item_judge.specs.Judging.{TellsTables}

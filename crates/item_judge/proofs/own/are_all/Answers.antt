@@ -2,7 +2,7 @@ use Rattle.std.proofs.Common.{◌≡◌, ◌<◌, List, [], ◌∙◌, drop, len
 use Rattle.v6_options.specs.Ias.{IaContent}
 use Rattle.v6_options.specs.IaViews.{ias_left}
 use Rattle.v6_message.specs.ReadBack.{asked_in}
-use Rattle.client_model.specs.ClientSettings6.{ask_for}
+use Rattle.evidence_words.specs.ClientModel.ClientSettings6.{ask_for}
 use Rattle.lease6_evidence.specs.OwnMessages6 as own
 use Rattle.item_judge.proofs.OwnWalks.{none_more}
 use Rattle.item_judge.proofs.own.are_all.Goals as goal

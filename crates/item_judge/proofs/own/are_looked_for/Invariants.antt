@@ -1,7 +1,7 @@
 use Rattle.std.proofs.Common.{◌≡◌, drop, map}
 use Rattle.v6_options.specs.IaViews.{ias_left}
 use Rattle.v6_message.specs.ReadBack.{asked_in}
-use Rattle.client_model.specs.ClientSettings6.{ask_for}
+use Rattle.evidence_words.specs.ClientModel.ClientSettings6.{ask_for}
 use Rattle.lease6_evidence.specs.OwnMessages6 as own
 use Rattle.item_judge.proofs.own.are_looked_for.Given as goal
 

@@ -1,4 +1,4 @@
-use Rattle.lease6_judge.proofs.HeardTold.{addresses_were_heard, held_was_heard}
+use Rattle.life_audit.proofs.Lease6Judge.HeardTold.{addresses_were_heard, held_was_heard}
 use Rattle.life_audit.specs.Laws.{HeardBasisIn, HeldBasis}
 use Rattle.life_audit.proofs.LinesRest.{told_lines_rest}
 use Rattle.life_audit.proofs.Widened.{heard_lines_rest}

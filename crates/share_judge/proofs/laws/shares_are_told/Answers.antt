@@ -1,4 +1,4 @@
-use Rattle.lease6_evidence.specs.HeldItems.{ItemRests}
+use Rattle.evidence.specs.Lease6Evidence.HeldItems.{ItemRests}
 use Rattle.share_judge.proofs.Told.{shares_told}
 use Rattle.share_judge.proofs.laws.shares_are_told.Goals as goal
 

@@ -1,4 +1,4 @@
-use Rattle.audit_seats.specs.Tests.{judged_by}
+use Rattle.iface_judge.specs.AuditSeats.Tests.{judged_by}
 use Rattle.transcript_audit.proofs.SayingLaws.{said_at_end}
 use Rattle.transcript_audit.proofs.auditing.audited.Goals as goal
 

@@ -1,7 +1,7 @@
 use Rattle.std.proofs.Common.{ℕ, List, Option, sym, subst}
 use Rattle.std.specs.List.{AllByRecursion}
 use Rattle.net_types.proofs.AllLaws.{all_map}
-use Rattle.lease_text.specs.Leases.{ValueContent}
+use Rattle.lease6_text.specs.LeaseText.Leases.{ValueContent}
 use Rattle.lease6_text.specs.Bounds.{FitsIas, FitsItem, FitsMoment, FitsValues6}
 use Rattle.lease6_text.specs.Leases.{IaLeaseContent}
 use Rattle.v6_client.specs.declared.setup.IaAsk.{IaAsk}

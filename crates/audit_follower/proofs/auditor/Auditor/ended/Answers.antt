@@ -1,6 +1,6 @@
 use Rattle.std.proofs.Common.{ℕ, [], None, option_map, subst}
 use Rattle.world.specs.declared.wakes.Event.TheVariants.{Quiet}
-use Rattle.audit_model.specs.Auditing.{turned, unjust_after, unjust_first, unjust_in}
+use Rattle.audit_turns.specs.AuditModel.Auditing.{turned, unjust_after, unjust_first, unjust_in}
 use Rattle.audit_seats.specs.Tests.{judged_by}
 use Rattle.audit_follower.specs.Holding.{Courses}
 use Rattle.audit_follower.proofs.auditor.Auditor.ended.Goals as goal

@@ -1,7 +1,7 @@
 use Rattle.std.proofs.Common.{List, ℕ, sym, subst}
 use Rattle.transcript_lines.specs.declared.lines.ToldLine.{ToldLine}
 use Rattle.transcript_lines.specs.Contents.{line_of}
-use Rattle.audit_model.specs.Auditing.{Auditing, after}
+use Rattle.audit_turns.specs.AuditModel.Auditing.{Auditing, after}
 use Rattle.audit_seats.specs.Tests.{judged_by}
 use Rattle.audit_follower.specs.declared.auditor.Auditor.{Auditor}
 use Rattle.audit_follower.specs.Holding.{Audits}

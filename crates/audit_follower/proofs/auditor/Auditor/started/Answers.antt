@@ -3,7 +3,7 @@ use Rattle.net_types.specs.declared.interface.IfSpec.{IfSpec}
 use Rattle.settings.specs.declared.interfaces.Managed.{Managed}
 use Rattle.conf_text.specs.Configurations.{Configuration}
 use Rattle.conf_text.specs.Settings.{managed_of}
-use Rattle.audit_model.specs.Auditing.{begun}
+use Rattle.audit_turns.specs.AuditModel.Auditing.{begun}
 use Rattle.audit_turns.specs.Goings.{going_of}
 use Rattle.audit_sites.specs.Reads.{reads_of}
 use Rattle.audit_follower.proofs.AuditLaws.{begun_goes_on, begun_opens}

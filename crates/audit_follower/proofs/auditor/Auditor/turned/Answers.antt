@@ -1,5 +1,5 @@
 use Rattle.std.proofs.Common.{ℕ, option_map, subst}
-use Rattle.audit_model.specs.Auditing.{turned, unjust_first, unjust_in}
+use Rattle.audit_turns.specs.AuditModel.Auditing.{turned, unjust_first, unjust_in}
 use Rattle.audit_seats.specs.Tests.{judged_by}
 use Rattle.audit_turns.specs.Goings.{going_of}
 use Rattle.audit_follower.specs.Holding.{Courses}

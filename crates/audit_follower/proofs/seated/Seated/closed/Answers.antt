@@ -1,6 +1,6 @@
 use Rattle.std.proofs.Common.{◌≡◌, List, ◌∷◌, Some, refl, sym, ap, subst, ◌∙◌}
-use Rattle.evidence_words.specs.Entries.{Entry}
-use Rattle.audit_model.specs.Auditing.{turned}
+use Rattle.audit_turns.specs.EvidenceWords.Entries.{Entry}
+use Rattle.audit_turns.specs.AuditModel.Auditing.{turned}
 use Rattle.audit_seats.specs.declared.seats.Watched.{Watched}
 use Rattle.audit_seats.specs.Seats.{AllTell, sites_of}
 use Rattle.audit_seats.specs.Tests.{judged_by}

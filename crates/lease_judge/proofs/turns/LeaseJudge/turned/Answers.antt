@@ -1,6 +1,6 @@
 use Rattle.std.proofs.Common.{◌∙◌, ◌&&◌, not, List, sym, subst, ap}
 use Rattle.std.specs.List.{list_any}
-use Rattle.lease_evidence.specs.LeaseBasis.{tells_end}
+use Rattle.own_frames4.specs.LeaseEvidence.LeaseBasis.{tells_end}
 use Rattle.lease_judge.specs.Judge.{stays}
 use Rattle.v4_message.specs.Requests.{ask_content}
 use Rattle.v4_client.specs.Settings.{settings_content}
