@@ -276,7 +276,7 @@ module _ (turn : Turn4) (count : ℕ) (current : Option Numbered) (k : Kept) (wi
       (asks_anew (Lasts turn.at) turn.at (sent_of (request turn.site exchange 0)).said exchange
       (rebooting turn exchange Four end stands).state count current k within
       (fresh turn current last) refl (λ x is.
-        (is, stood_lasts may_stand terms (first_false (is_due (expiry terms) turn.at) (eqb turn.site.times.reboot 0) asks)))))
+      (is, stood_lasts may_stand terms (first_false (is_due (expiry terms) turn.at) (eqb turn.site.times.reboot 0) asks)))))
 
   pub begin_watched : (may_stand : Bool) (kept : Option Terms4) (state : State4) → On (Lasts turn.at) state current k.answered k.grant
       → Then (begin_row turn may_stand kept state)

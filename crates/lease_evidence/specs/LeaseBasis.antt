@@ -67,4 +67,4 @@ pub record LeaseBasis (site : Site) (net : Net) (now : ℕ) (past : List Entry) 
   pub granted : Since (CalmFor site opened) (FirstAck site opened terms) past
   pub unexpired : is_unexpired opened.exchange.first terms.lease now ≡ true
   pub probed : site.managed.conf.flags.noarp ≡ false
-    → Probed (Calm site) (λ first before. Unit {0}) site terms.net.ip past
+      → Probed (Calm site) (λ first before. Unit {0}) site terms.net.ip past
