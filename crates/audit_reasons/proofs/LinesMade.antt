@@ -22,7 +22,7 @@ use Rattle.audit_model.specs.Auditing.{is_judged}
 use Rattle.audit_model.specs.Showing.{Shown, managed_told, shown_after, shown_at_first, shown_next, site_told}
 use Rattle.audit_model.specs.Verdicts.{IsShown, LifeIsJust, RestsThen}
 use Rattle.audit_model.proofs.LivesWalked.{living_of, scene_of}
-use Rattle.transcript_audit.proofs.IfaceJudge.Among.{all_told}
+use Rattle.transcript_audit.proofs.IfaceJudges.Among.{all_told}
 use Rattle.transcript_audit.specs.Verdicts.{HasBasisShown}
 use Rattle.basis_turns.specs.BasisShown.{FoundAreShown}
 use Rattle.audit_reasons.specs.Accounts.{AreLinesAfter, AreLinesOf, AreReasons, HoldsAfter, if_judged, judged_last, last_judged}

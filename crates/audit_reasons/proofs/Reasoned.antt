@@ -14,10 +14,10 @@ use Rattle.transcript_audit.specs.Evidence.Laws.{BasisWith, KeptBasis}
 use Rattle.transcript_audit.proofs.KeptJudge.Lists.{has_any}
 use Rattle.v6_client_laws.proofs.Given.{met}
 use Rattle.audit_seats.specs.Tests.{judged_by, rests_on}
-use Rattle.transcript_audit.specs.IfaceJudge.Joined.{is_own, is_shared, of_number}
-use Rattle.transcript_audit.specs.IfaceJudge.Laws.{HeardAddress}
-use Rattle.transcript_audit.proofs.IfaceJudge.Owning.{own_told}
-use Rattle.transcript_audit.proofs.IfaceJudge.SharesTold.{shares_told}
+use Rattle.transcript_audit.specs.IfaceJudges.Joined.{is_own, is_shared, of_number}
+use Rattle.transcript_audit.specs.IfaceJudges.Laws.{HeardAddress}
+use Rattle.transcript_audit.proofs.IfaceJudges.Owning.{own_told}
+use Rattle.transcript_audit.proofs.IfaceJudges.SharesTold.{shares_told}
 use Rattle.basis_turns.specs.BasisFinds.{basis_found}
 use Rattle.basis_turns.specs.BasisShown.{FoundAreShown, HasOwnBasis, ShownBy}
 use Rattle.basis_turns.specs.declared.walks.Basis.{Basis}

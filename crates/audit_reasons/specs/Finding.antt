@@ -6,7 +6,7 @@ use Rattle.world.specs.declared.rows.HostRow.TheVariants.{Addr, Route}
 use Rattle.evidence_words.specs.Entries.{Entry}
 use Rattle.evidence_words.specs.IfaceLives.{now_in}
 use Rattle.evidence_words.specs.Inputs.{Site, index_at}
-use Rattle.transcript_audit.specs.IfaceJudge.Joined.{is_own, is_shared}
+use Rattle.transcript_audit.specs.IfaceJudges.Joined.{is_own, is_shared}
 use Rattle.basis_turns.specs.BasisFinds.{basis_found}
 use Rattle.basis_turns.specs.declared.walks.Basis.{Basis}
 use Rattle.audit_reasons.specs.declared.reason.Reason.{Reason}

@@ -4,7 +4,7 @@ ghost use Rattle.evidence_words.specs.Entries.{Entry};
 ghost use Rattle.evidence_words.specs.IfaceLives.{now_in};
 ghost use Rattle.audit_words.specs.Shown.{entry_shown, site_shown};
 ghost use Rattle.audit_seats.specs.Seats.{AllTell, sites_of};
-ghost use Rattle.transcript_audit.specs.IfaceJudge.Telling.{Tells};
+ghost use Rattle.transcript_audit.specs.IfaceJudges.Telling.{Tells};
 ghost use Rattle.basis_turns.specs.Turns.{shown_after};
 ghost use Rattle.audit_reasons.specs.Judging.{IsAfter};
 ghost use Rattle.audit_reasons.specs.Finding.{first_given, kept_reason, own_at, own_reason, reason_among, row_reason, share_at};

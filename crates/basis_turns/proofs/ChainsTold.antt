@@ -10,7 +10,7 @@ use Rattle.evidence_words.specs.Probed.{TurnWord, AsProbe, probe_taken}
 use Rattle.static_judge.specs.LocalEvidence.LinkLocalBasis.{Anything}
 use Rattle.probe_table.specs.ProbeTimes.{TurnTest, earlier_of, only_if, is_past, times_in}
 use Rattle.lease_judge.specs.ProbedTurns.{probed_in}
-use Rattle.lease_judge.proofs.LocalJudge.Calmness.{Tells}
+use Rattle.lease_judge.proofs.LocalJudges.Calmness.{Tells}
 use Rattle.basis_turns.specs.Chains.{is_same, stays, one_after, two_after, three_after, chain_in, fourth_after, probed_turns_in}
 use Rattle.basis_turns.specs.ProbedIn.{ProbesIn, ProbedIn}
 use Rattle.basis_turns.specs.declared.probes.ProbeChain.{ProbeChain}

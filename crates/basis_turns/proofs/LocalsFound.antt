@@ -16,13 +16,13 @@ use Rattle.evidence_words.specs.Inputs.{Site, uses, StaysOn}
 use Rattle.evidence_words.specs.Probed.{EachAfter, Probed}
 use Rattle.static_judge.specs.LocalEvidence.LinkLocalBasis.{Anything, IsAlone, UsesApart, LinkLocalBasis}
 use Rattle.probe_table.specs.ProbeTimes.{only_if}
-use Rattle.lease_judge.specs.LocalJudge.Choices.{choice_after, choice_in, choice_turn, chosen_at, is_alone, is_apart, is_calm}
-use Rattle.lease_judge.specs.LocalJudge.Judge.{gives_in, in_range}
-use Rattle.lease_judge.specs.LocalJudge.declared.choices.Choice.{Choice}
-use Rattle.lease_judge.specs.LocalJudge.declared.choices.ChoiceTurn.{ChoiceTurn}
-use Rattle.lease_judge.proofs.LocalJudge.Announcing.{alone}
-use Rattle.lease_judge.proofs.LocalJudge.Calmness.{calm_tells}
-use Rattle.lease_judge.proofs.LocalJudge.Telling.{bases}
+use Rattle.lease_judge.specs.LocalJudges.Choices.{choice_after, choice_in, choice_turn, chosen_at, is_alone, is_apart, is_calm}
+use Rattle.lease_judge.specs.LocalJudges.Judge.{gives_in, in_range}
+use Rattle.lease_judge.specs.LocalJudges.declared.choices.Choice.{Choice}
+use Rattle.lease_judge.specs.LocalJudges.declared.choices.ChoiceTurn.{ChoiceTurn}
+use Rattle.lease_judge.proofs.LocalJudges.Announcing.{alone}
+use Rattle.lease_judge.proofs.LocalJudges.Calmness.{calm_tells}
+use Rattle.lease_judge.proofs.LocalJudges.Telling.{bases}
 use Rattle.basis_turns.specs.Laws.{FoundLocalsAreShown}
 use Rattle.basis_turns.specs.LocalFinds.{begun_in, earliest_in, first_of, gone_on, latest_after, latest_in, no_fourth, probes_before, standing, turns_of}
 use Rattle.basis_turns.specs.LocalShown.{LocalShown}

@@ -6,10 +6,10 @@ use Rattle.net_types.specs.declared.address.Net.{Net}
 use Rattle.net_types.specs.declared.address.Net.TheVariants.{V4, V6}
 use Rattle.evidence_words.specs.Entries.{Entry}
 use Rattle.evidence_words.specs.Inputs.{Site}
-use Rattle.lease_judge.specs.LocalJudge.Choices.{choice_after, choice_turn, is_calm}
-use Rattle.lease_judge.specs.LocalJudge.Judge.{gives_in}
-use Rattle.lease_judge.specs.LocalJudge.declared.choices.Choice.{Choice}
-use Rattle.lease_judge.specs.LocalJudge.declared.choices.ChoiceTurn.{ChoiceTurn}
+use Rattle.lease_judge.specs.LocalJudges.Choices.{choice_after, choice_turn, is_calm}
+use Rattle.lease_judge.specs.LocalJudges.Judge.{gives_in}
+use Rattle.lease_judge.specs.LocalJudges.declared.choices.Choice.{Choice}
+use Rattle.lease_judge.specs.LocalJudges.declared.choices.ChoiceTurn.{ChoiceTurn}
 use Rattle.basis_turns.specs.Chains.{chain_in}
 use Rattle.basis_turns.specs.declared.locals.Standing.{Standing}
 use Rattle.basis_turns.specs.declared.probes.ProbedTurns.{ProbedTurns}

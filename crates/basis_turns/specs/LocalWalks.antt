@@ -3,8 +3,8 @@ use Rattle.std.specs.Prelude.{◌≡◌, List}
 use Rattle.net_types.specs.declared.address.Ip4.{Ip4}
 use Rattle.evidence_words.specs.Entries.{Entry}
 use Rattle.evidence_words.specs.Inputs.{Site, has_carrier}
-use Rattle.lease_judge.specs.LocalJudge.Choices.{is_calm}
-use Rattle.lease_judge.specs.LocalJudge.Judge as judge
+use Rattle.lease_judge.specs.LocalJudges.Choices.{is_calm}
+use Rattle.lease_judge.specs.LocalJudges.Judge as judge
 use Rattle.basis_turns.specs.LocalFinds.{earliest_in, latest_in}
 use Rattle.basis_turns.specs.ProbeWalks.{Holds}
 use Rattle.basis_turns.specs.declared.locals.LocalWalk.{LocalWalk}

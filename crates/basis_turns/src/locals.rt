@@ -6,7 +6,7 @@ ghost use Rattle.net_types.specs.declared.address.Net.TheVariants.{V4};
 ghost use Rattle.evidence_words.specs.Entries as told;
 ghost use Rattle.evidence_words.specs.Inputs as told_of;
 ghost use Rattle.audit_words.specs.Shown.{entry_shown, site_shown};
-ghost use Rattle.lease_judge.specs.LocalJudge.Choices.{turn_for};
+ghost use Rattle.lease_judge.specs.LocalJudges.Choices.{turn_for};
 ghost use Rattle.basis_turns.specs.LocalFinds.{begun_in, earliest_after, first_of, gone_on, latest_after, local_found};
 ghost use Rattle.basis_turns.specs.LocalWalks.{Tells};
 ghost use Rattle.basis_turns.specs.Turns.{shown_after};

@@ -20,6 +20,7 @@ pub mod OneTurn
 pub mod Stretches
 pub mod CutOffs
 pub mod Fronts
+mod AskedAlike
 mod FileNames
 pub mod Wakings
 pub mod Filings

@@ -12,6 +12,7 @@ mod hooks;
 mod hosts;
 mod keeping;
 mod kept;
+mod laws;
 mod lives;
 mod names;
 mod openings;
@@ -25,5 +26,6 @@ mod turns;
 mod waking;
 
 pub use devices::Devices;
+pub use laws::files_are_kept_by_the_same_calls;
 pub use outside::Outside;
 pub use serving::{ServeEnd, serve};

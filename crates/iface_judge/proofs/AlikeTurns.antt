@@ -9,14 +9,14 @@ use Rattle.net_types.specs.declared.address.Net.{Net}
 use Rattle.net_types.specs.declared.address.Net.TheVariants.{V4, V6}
 use Rattle.evidence_words.specs.Entries.{Entry, Offer}
 use Rattle.evidence_words.specs.Inputs.{Site, carrier_after, has_carrier, index_at, uses}
-use Rattle.static_judge.specs.ProbeTable.ProbeTimes.{is_past, only_if, times_after, times_in, turn_to}
-use Rattle.static_judge.specs.ProbeTable.declared.times.ProbeTimes.{ProbeTimes}
-use Rattle.lease_judge.specs.LocalJudge.Choices.{announces_other, choice_after, choice_in, choice_turn, defended, goes_on, is_alone, is_apart, is_calm, kept_choice, turn_for}
-use Rattle.lease_judge.specs.LocalJudge.Judge.{gives_in, in_range}
-use Rattle.lease_judge.specs.LocalJudge.Settled.{IsSettled, is_unused}
-use Rattle.lease_judge.specs.LocalJudge.declared.choices.Choice.{Choice}
-use Rattle.lease_judge.specs.LocalJudge.declared.choices.ChoiceTurn.{ChoiceTurn}
-use Rattle.lease_judge.proofs.LocalJudge.Telling.{if_in_range, in_bounds}
+use Rattle.static_judge.specs.ProbeTables.ProbeTimes.{is_past, only_if, times_after, times_in, turn_to}
+use Rattle.static_judge.specs.ProbeTables.declared.times.ProbeTimes.{ProbeTimes}
+use Rattle.lease_judge.specs.LocalJudges.Choices.{announces_other, choice_after, choice_in, choice_turn, defended, goes_on, is_alone, is_apart, is_calm, kept_choice, turn_for}
+use Rattle.lease_judge.specs.LocalJudges.Judge.{gives_in, in_range}
+use Rattle.lease_judge.specs.LocalJudges.Settled.{IsSettled, is_unused}
+use Rattle.lease_judge.specs.LocalJudges.declared.choices.Choice.{Choice}
+use Rattle.lease_judge.specs.LocalJudges.declared.choices.ChoiceTurn.{ChoiceTurn}
+use Rattle.lease_judge.proofs.LocalJudges.Telling.{if_in_range, in_bounds}
 use Rattle.audit_seats.specs.Concern.{concerns}
 use Rattle.iface_judge.specs.Telling.{AreAlike, use_of}
 use Rattle.iface_judge.proofs.IdleTurns.{carrier_kept, local_goes_on, no_input, no_offers, not_used, times_kept}

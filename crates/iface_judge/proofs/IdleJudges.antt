@@ -20,8 +20,8 @@ use Rattle.share_judge.specs.LeaseEvidence.LeaseBasis.{tells_end}
 use Rattle.share_judge.specs.LeaseEvidence.Replies.{reply_at, reply_by}
 use Rattle.item_judge.specs.Lease6Evidence.Exchanges6.{Numbered6, messages6_at, seen6_in, show6}
 use Rattle.item_judge.specs.Lease6Evidence.Replies6.{asks_at, message6_at}
-use Rattle.static_judge.specs.ProbeTable.ProbeTimes.{is_past, times_in}
-use Rattle.static_judge.specs.ProbeTable.declared.times.ProbeTimes.{ProbeTimes}
+use Rattle.static_judge.specs.ProbeTables.ProbeTimes.{is_past, times_in}
+use Rattle.static_judge.specs.ProbeTables.declared.times.ProbeTimes.{ProbeTimes}
 use Rattle.static_judge.specs.Judge as of_statics
 use Rattle.static_judge.specs.declared.judge.StaticJudge.{StaticJudge}
 use Rattle.lease_judge.specs.Judge.{Judge, hears, hears_in, is_calm, judge_in, sees, stays, told}

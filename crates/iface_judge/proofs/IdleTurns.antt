@@ -20,9 +20,9 @@ use Rattle.share_judge.specs.LeaseEvidence.Replies.{arrival_in, message_on}
 use Rattle.share_judge.specs.LeaseEvidence.Exchanges.{message_of, messages_at}
 use Rattle.item_judge.specs.Lease6Evidence.Exchanges6.{message6_of, messages6_at}
 use Rattle.item_judge.specs.Lease6Evidence.Replies6.{message6_at, message6_on}
-use Rattle.static_judge.specs.ProbeTable.ProbeTimes.{TurnTest, probe_turn, times_in}
-use Rattle.static_judge.proofs.ProbeTable.Standing.{all_kept}
-use Rattle.lease_judge.specs.LocalJudge.Choices.{goes_on}
+use Rattle.static_judge.specs.ProbeTables.ProbeTimes.{TurnTest, probe_turn, times_in}
+use Rattle.static_judge.proofs.ProbeTables.Standing.{all_kept}
+use Rattle.lease_judge.specs.LocalJudges.Choices.{goes_on}
 use Rattle.lease_judge.specs.Judge as lease
 use Rattle.item_judge.specs.Lease6Judge.Terms as items
 use Rattle.share_judge.specs.KeptJudge.Staying as kept

@@ -8,8 +8,8 @@ use Rattle.evidence_words.specs.Inputs.{Site}
 use Rattle.share_judge.specs.Evidence.Laws.{BasisWith}
 use Rattle.static_judge.specs.Judge as statics
 use Rattle.static_judge.proofs.Configured as of_statics
-use Rattle.lease_judge.specs.LocalJudge.Judge as local
-use Rattle.lease_judge.proofs.LocalJudge.Telling as of_local
+use Rattle.lease_judge.specs.LocalJudges.Judge as local
+use Rattle.lease_judge.proofs.LocalJudges.Telling as of_local
 use Rattle.lease_judge.specs.Leased.{is_leased}
 use Rattle.lease_judge.proofs.LeasesTold.{leases_judged}
 use Rattle.item_judge.specs.Judging.{is_given}

@@ -4,8 +4,8 @@ use Rattle.net_types.specs.declared.address.Net.{Net}
 use Rattle.evidence_words.specs.Entries.{Entry}
 use Rattle.evidence_words.specs.Inputs.{Site, index_at}
 use Rattle.audit_seats.specs.Concern.{concerns}
-use Rattle.lease_judge.specs.LocalJudge.Judge as of_local
-use Rattle.lease_judge.specs.LocalJudge.declared.judge.LocalJudge.{LocalJudge}
+use Rattle.lease_judge.specs.LocalJudges.Judge as of_local
+use Rattle.lease_judge.specs.LocalJudges.declared.judge.LocalJudge.{LocalJudge}
 use Rattle.iface_judge.specs.Telling.{Tells, TellsLocal}
 use Rattle.iface_judge.specs.declared.judge.IfaceJudge.{IfaceJudge}
 use Rattle.iface_judge.proofs.AlikeTurns.{alike_idle, alike_on, gives_alike}

@@ -6,7 +6,7 @@ use Rattle.evidence_words.specs.Entries.{Entry}
 use Rattle.evidence_words.specs.IfaceLives.{now_in}
 use Rattle.evidence_words.specs.Inputs.{Site}
 use Rattle.static_judge.specs.Judge as statics
-use Rattle.lease_judge.specs.LocalJudge.Judge as local
+use Rattle.lease_judge.specs.LocalJudges.Judge as local
 use Rattle.lease_judge.specs.Leased.{is_leased}
 use Rattle.item_judge.specs.Judging.{is_given}
 use Rattle.share_judge.specs.KeptJudge.Asking4.{is_kept4}

@@ -6,13 +6,13 @@ use Rattle.audit_words.specs.Shown.{offer_shown}
 use Rattle.audit_words.specs.declared.shown.Offer.{Offer}
 use Rattle.evidence_words.specs.Entries.{Entry, offers_on}
 use Rattle.evidence_words.specs.Inputs.{Site, has_carrier, index_at}
-use Rattle.static_judge.specs.ProbeTable.ProbeTimes.{times_in}
+use Rattle.static_judge.specs.ProbeTables.ProbeTimes.{times_in}
 use Rattle.static_judge.specs.Judge as of_statics
-use Rattle.lease_judge.specs.LocalJudge.Choices.{choice_in, is_calm}
-use Rattle.lease_judge.specs.LocalJudge.Judge as of_local
-use Rattle.lease_judge.specs.LocalJudge.Settled as local_turns
-use Rattle.lease_judge.specs.LocalJudge.declared.choices.Choice.{Choice}
-use Rattle.lease_judge.specs.LocalJudge.declared.judge.LocalJudge.{LocalJudge}
+use Rattle.lease_judge.specs.LocalJudges.Choices.{choice_in, is_calm}
+use Rattle.lease_judge.specs.LocalJudges.Judge as of_local
+use Rattle.lease_judge.specs.LocalJudges.Settled as local_turns
+use Rattle.lease_judge.specs.LocalJudges.declared.choices.Choice.{Choice}
+use Rattle.lease_judge.specs.LocalJudges.declared.judge.LocalJudge.{LocalJudge}
 use Rattle.lease_judge.specs.ProbedTurns as lease_turns
 use Rattle.lease_judge.specs.Turns as of_lease
 use Rattle.lease_judge.specs.Turns.{JudgeContent}

@@ -9,4 +9,4 @@ mod ProbesHeld
 mod AnswersTold
 mod NumbersTold
 mod SettledProbes
-pub use Rattle.local_judge.proofs as LocalJudge
+pub use Rattle.local_judge.proofs as LocalJudges

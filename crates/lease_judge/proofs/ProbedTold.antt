@@ -11,7 +11,7 @@ use Rattle.evidence_words.specs.Probed.{TurnWord, Probes, EachAfter, Probed}
 use Rattle.local_judge.specs.LocalEvidence.LinkLocalBasis.{Anything}
 use Rattle.own_frames4.specs.LeaseEvidence.Exchanges.{messages_at}
 use Rattle.own_frames4.specs.LeaseEvidence.LeaseBasis.{tells_end, Calm}
-use Rattle.local_judge.specs.ProbeTable.ProbeTimes.{TurnTest, is_past, times_in}
+use Rattle.local_judge.specs.ProbeTables.ProbeTimes.{TurnTest, is_past, times_in}
 use Rattle.local_judge.specs.Choices as local
 use Rattle.local_judge.proofs.Calmness.{Tells, calm_tells}
 use Rattle.local_judge.proofs.ProbesTold.{three_told}

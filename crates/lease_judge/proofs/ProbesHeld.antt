@@ -10,13 +10,13 @@ use Rattle.evidence_words.specs.Inputs as told_of
 use Rattle.audit_words.specs.Shown.{entry_shown, site_shown}
 use Rattle.audit_words.specs.declared.shown.Entry.{Entry}
 use Rattle.audit_words.specs.declared.shown.Site.{Site}
-use Rattle.local_judge.specs.ProbeTable.ByAddress.{is_addr}
-use Rattle.local_judge.specs.ProbeTable.ProbeTimes.{is_past, no_probes, times_in}
-use Rattle.local_judge.specs.ProbeTable.declared.times.ProbeTimes.{ProbeTimes}
-use Rattle.local_judge.specs.ProbeTable.Table as table
-use Rattle.local_judge.specs.ProbeTable.Table.{times_of}
-use Rattle.local_judge.proofs.ProbeTable.Requests.{same_address}
-use Rattle.local_judge.proofs.ProbeTable.Standing.{holds_on}
+use Rattle.local_judge.specs.ProbeTables.ByAddress.{is_addr}
+use Rattle.local_judge.specs.ProbeTables.ProbeTimes.{is_past, no_probes, times_in}
+use Rattle.local_judge.specs.ProbeTables.declared.times.ProbeTimes.{ProbeTimes}
+use Rattle.local_judge.specs.ProbeTables.Table as table
+use Rattle.local_judge.specs.ProbeTables.Table.{times_of}
+use Rattle.local_judge.proofs.ProbeTables.Requests.{same_address}
+use Rattle.local_judge.proofs.ProbeTables.Standing.{holds_on}
 use Rattle.lease_judge.specs.ProbedTurns.{calm_in}
 use Rattle.lease_judge.specs.Probes.{AreFresh, Holds, IsTurned, is_fresh, is_ready, probed_of}
 use Rattle.lease_judge.specs.declared.probes.LeaseProbes.{LeaseProbes}

@@ -4,9 +4,9 @@ use Rattle.std.specs.List.{list_all}
 use Rattle.net_types.specs.declared.address.Ip4.{Ip4}
 use Rattle.evidence_words.specs.Entries as told
 use Rattle.evidence_words.specs.Inputs as told_of
-use Rattle.local_judge.specs.ProbeTable.ProbeTimes.{is_past}
-use Rattle.local_judge.specs.ProbeTable.Table.{AreProbed, times_of}
-use Rattle.local_judge.specs.ProbeTable.declared.times.ProbeTimes.{ProbeTimes}
+use Rattle.local_judge.specs.ProbeTables.ProbeTimes.{is_past}
+use Rattle.local_judge.specs.ProbeTables.Table.{AreProbed, times_of}
+use Rattle.local_judge.specs.ProbeTables.declared.times.ProbeTimes.{ProbeTimes}
 use Rattle.local_judge.proofs.SettledChoices.{at_last, one_among}
 use Rattle.lease_judge.specs.ProbedTurns.{IsSettled}
 use Rattle.lease_judge.specs.Probes.{AreSettled, probed_of}

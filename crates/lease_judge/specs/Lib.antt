@@ -7,4 +7,4 @@ pub mod Probes
 pub mod Turns
 pub mod Answers
 pub mod Numbers
-pub use Rattle.local_judge.specs as LocalJudge
+pub use Rattle.local_judge.specs as LocalJudges

@@ -4,7 +4,7 @@ use Rattle.net_types.specs.AddressText.{FitsIp4}
 use Rattle.net_types.specs.declared.address.Ip4.{Ip4}
 use Rattle.evidence_words.specs.Entries.{Entry}
 use Rattle.evidence_words.specs.Inputs.{Site}
-use Rattle.local_judge.specs.ProbeTable.ProbeTimes.{TurnTest, is_past, times_in}
+use Rattle.local_judge.specs.ProbeTables.ProbeTimes.{TurnTest, is_past, times_in}
 use Rattle.lease_judge.specs.Judge.{is_calm, judge_in}
 
 -- whether a turn ends no lease

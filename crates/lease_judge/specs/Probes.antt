@@ -7,10 +7,10 @@ use Rattle.evidence_words.specs.Entries as told
 use Rattle.evidence_words.specs.Inputs as told_of
 use Rattle.audit_words.specs.declared.shown.Entry.{Entry}
 use Rattle.audit_words.specs.declared.shown.Site.{Site}
-use Rattle.local_judge.specs.ProbeTable.ByAddress.{is_addr}
-use Rattle.local_judge.specs.ProbeTable.ProbeTimes.{is_past}
-use Rattle.local_judge.specs.ProbeTable.Table as table
-use Rattle.local_judge.specs.ProbeTable.Table.{times_of}
+use Rattle.local_judge.specs.ProbeTables.ByAddress.{is_addr}
+use Rattle.local_judge.specs.ProbeTables.ProbeTimes.{is_past}
+use Rattle.local_judge.specs.ProbeTables.Table as table
+use Rattle.local_judge.specs.ProbeTables.Table.{times_of}
 use Rattle.lease_judge.specs.ProbedTurns.{calm_in, probed_in}
 use Rattle.lease_judge.specs.declared.probes.LeaseProbes.{LeaseProbes}
 

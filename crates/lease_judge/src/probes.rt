@@ -3,8 +3,8 @@
 ghost use Rattle.std.specs.Prelude.{◌≡◌, true, ◌++◌, [], filter, IfOk};
 ghost use Rattle.std.specs.List.{list_all};
 ghost use Rattle.net_types.specs.declared.address.Ip4.{Ip4};
-ghost use Rattle.local_judge.specs.ProbeTable.ProbeTimes.{no_probes};
-ghost use Rattle.local_judge.specs.ProbeTable.Table.{times_of};
+ghost use Rattle.local_judge.specs.ProbeTables.ProbeTimes.{no_probes};
+ghost use Rattle.local_judge.specs.ProbeTables.Table.{times_of};
 ghost use Rattle.lease_judge.specs.Probes.{AreFresh, AreSettled, IsTurned, is_fresh, probed_of};
 
 use audit_words::{Entry, Site};

@@ -7,4 +7,4 @@ mod AnnouncedOnly
 mod Turns
 pub mod SettledChoices
 pub mod Telling
-pub use Rattle.probe_table.proofs as ProbeTable
+pub use Rattle.probe_table.proofs as ProbeTables

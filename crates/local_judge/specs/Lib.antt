@@ -3,4 +3,4 @@ pub mod Judge
 pub mod Settled
 pub mod Laws
 pub use Rattle.local_evidence.specs as LocalEvidence
-pub use Rattle.probe_table.specs as ProbeTable
+pub use Rattle.probe_table.specs as ProbeTables

@@ -4,5 +4,5 @@ mod BadLines
 mod JudgedTexts
 mod OneVerdict
 pub use Rattle.iface_judge.proofs.Evidence
-pub use Rattle.iface_judge.proofs as IfaceJudge
+pub use Rattle.iface_judge.proofs as IfaceJudges
 pub use Rattle.iface_judge.proofs.KeptJudge

@@ -3,5 +3,5 @@ pub mod Saying
 pub mod Laws
 pub use Rattle.audit_follower.specs as AuditFollower
 pub use Rattle.iface_judge.specs.Evidence
-pub use Rattle.iface_judge.specs as IfaceJudge
+pub use Rattle.iface_judge.specs as IfaceJudges
 pub use Rattle.iface_judge.specs.Lease6Judge

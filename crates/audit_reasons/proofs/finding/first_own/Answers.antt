@@ -3,7 +3,7 @@ use Rattle.std.specs.Option.{is_some}
 use Rattle.audit_words.specs.Shown.{site_shown}
 use Rattle.audit_seats.specs.declared.seats.Watched.{Watched}
 use Rattle.audit_seats.proofs.LoopLaws.{all_at}
-use Rattle.transcript_audit.specs.IfaceJudge.Telling.{Tells}
+use Rattle.transcript_audit.specs.IfaceJudges.Telling.{Tells}
 use Rattle.basis_turns.specs.Turns.{shown_after}
 use Rattle.audit_reasons.specs.Finding.{own_at}
 use Rattle.audit_reasons.specs.declared.reason.Reason.{Reason}

@@ -4,7 +4,7 @@ use Rattle.evidence_words.specs.Entries.{Entry}
 use Rattle.evidence_words.specs.IfaceLives.{now_in}
 use Rattle.audit_words.specs.Shown.{site_shown}
 use Rattle.audit_seats.specs.Seats.{AllTell}
-use Rattle.transcript_audit.specs.IfaceJudge.Telling.{Tells}
+use Rattle.transcript_audit.specs.IfaceJudges.Telling.{Tells}
 use Rattle.audit_reasons.specs.Finding.{first_given, share_at}
 use Rattle.audit_reasons.proofs.finding.first_share.Given as goal
 

@@ -1,6 +1,6 @@
 use Rattle.std.proofs.Common.{refl}
 use Rattle.audit_words.specs.Shown.{site_shown}
-use Rattle.lease_judge.specs.LocalJudge.Choices.{is_calm}
+use Rattle.lease_judge.specs.LocalJudges.Choices.{is_calm}
 use Rattle.basis_turns.proofs.locals.LocalWalk.first.Goals as goal
 
 pub returns : goal.returns

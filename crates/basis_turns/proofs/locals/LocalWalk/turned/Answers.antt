@@ -1,7 +1,7 @@
 use Rattle.std.proofs.Common.{◌∙◌, rules}
 use Rattle.audit_words.specs.Shown.{entry_shown, site_shown}
 use Rattle.evidence_words.specs.Inputs.{carrier_after}
-use Rattle.lease_judge.specs.LocalJudge.Choices.{goes_on, is_calm, turn_for}
+use Rattle.lease_judge.specs.LocalJudges.Choices.{goes_on, is_calm, turn_for}
 use Rattle.basis_turns.specs.LocalFinds.{begun_in, first_of, gone_on}
 use Rattle.basis_turns.proofs.locals.LocalWalk.turned.Goals as goal
 

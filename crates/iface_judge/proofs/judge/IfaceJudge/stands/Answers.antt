@@ -1,6 +1,6 @@
 use Rattle.std.proofs.Common.{◌||◌, Bool, sym, ap, ◌∙◌}
 use Rattle.audit_words.specs.Shown.{site_shown}
-use Rattle.lease_judge.specs.LocalJudge.Judge.{gives_in}
+use Rattle.lease_judge.specs.LocalJudges.Judge.{gives_in}
 use Rattle.iface_judge.proofs.Staying.{local_gives}
 use Rattle.iface_judge.proofs.judge.IfaceJudge.stands.Goals as goal
 
