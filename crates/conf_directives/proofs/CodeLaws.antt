@@ -1,6 +1,6 @@
 -- Codes that are taken are codes of options.
 use Rattle.std.proofs.Common.{◌≡◌, ℕ, Bool, true, false, ◌&&◌, List, [], ◌∷◌, Option, Some, None, refl, ltb-true, bytes_eq, nat_lt}
-use Rattle.std.specs.Prelude.{IfSome, codes, if◌then◌else◌}
+use Rattle.std.specs.Prelude.{IfSome, codes, find, option_map, if◌then◌else◌}
 use Rattle.std.specs.List.{AllByRecursion, cons_option, list_all}
 use Rattle.std.specs.Char.{is_ascii_digit}
 use Rattle.std.specs.Str.Parse.{digits_value}
@@ -10,22 +10,24 @@ use Rattle.net_types.specs.Numbers.{is_numeral, number_at}
 use Rattle.conf_directives.specs.declared.names.CodeList.{CodeList}
 use Rattle.conf_directives.specs.declared.names.CodeList.TheVariants.{Asked, Refused, Required}
 use Rattle.conf_directives.specs.declared.option_words.OptionWord.TheVariants.{Taken, RapidCommit, Noticed}
-use Rattle.conf_directives.specs.Names.{named}
-use Rattle.conf_directives.specs.Codes.{code_at, code_in, is_needed, name_in, number_in, option_rows, option_word, other_in, taken_code}
+use Rattle.v4_options.specs.declared.table.OptionRow.{OptionRow}
+use Rattle.v4_options.specs.declared.table.TheConstants.{OPTIONS}
+use Rattle.v4_options.specs.OptionTable.{code_named, option_name}
+use Rattle.conf_directives.specs.Codes.{code_at, code_in, is_needed, name_in, number_in, option_word, other_in, taken_code}
 use Rattle.conf_directives.specs.SayLaws.{CodesFit, FitsCode}
 
 -- the bounds of codes
 abbrev is_code : ℕ → Bool
 is_code number = nat_lt 0 number && nat_lt number 255
 
-named_passes : {X : Type 0} (test : X → Bool) (rows : List (List ℕ × X)) (word : List ℕ) → list_all (λ row. test row.1) rows ≡ true
-    → IfSome (named rows word) (λ x. test x ≡ true)
-named_passes test [] word all = tt
-named_passes test (row ∷ rows) word all =
+found_passes : (test : OptionRow → Bool) (rows : List OptionRow) → list_all (λ row. is_code row.code) rows ≡ true
+    → IfSome (option_map (λ row. row.code) (find test rows)) (λ number. is_code number ≡ true)
+found_passes test [] all = tt
+found_passes test (row ∷ rows) all =
     let both = and_parts _ _ all in
-    elim (bytes_eq row.0 word) as (λ b. IfSome (if b then Some row.1 else named rows word) (λ x. test x ≡ true)) [
+    elim (test row) as (λ b. IfSome (option_map (λ row. row.code) (if b then Some row else find test rows)) (λ number. is_code number ≡ true)) [
       | true ↦ both.0
-      | false ↦ named_passes test rows word both.1
+      | false ↦ found_passes test rows both.1
     ]
 
 pub number_below : (limit : ℕ) (text : List ℕ) → IfSome (number_at limit text) (λ number. nat_lt number limit ≡ true)
@@ -81,12 +83,16 @@ name_fits : (list : CodeList) (word : List ℕ) (found : Option ℕ) → IfSome 
 name_fits list word None code = other_fits list word
 name_fits list word (Some number) code = code_fits list number code
 
+named_fits : (word : List ℕ) → IfSome (code_named word) (λ number. is_code number ≡ true)
+unfolding code_named
+named_fits word = found_passes (λ row. bytes_eq (option_name row.code) word) OPTIONS refl
+
 word_fits : (list : CodeList) (word : List ℕ) → IfSome (taken_code (option_word list word)) (FitsCode list)
 word_fits list word =
     elim (list_all is_ascii_digit word) as
-    (λ b. IfSome (taken_code (if b then number_in list (code_at word) else name_in list word (named option_rows word))) (FitsCode list)) [
+    (λ b. IfSome (taken_code (if b then number_in list (code_at word) else name_in list word (code_named word))) (FitsCode list)) [
       | true ↦ number_fits list (code_at word) (guarded_code (number_at 255 word) (number_below 255 word))
-      | false ↦ name_fits list word (named option_rows word) (named_passes is_code option_rows word refl)
+      | false ↦ name_fits list word (code_named word) (named_fits word)
     ]
 
 -- ---- words

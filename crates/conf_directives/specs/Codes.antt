@@ -5,32 +5,14 @@ use Rattle.std.specs.List.{list_all, list_any}
 use Rattle.net_types.specs.Cutting.{guarded}
 use Rattle.net_types.specs.Numbers.{number_at}
 use Rattle.v4_options.specs.declared.code.TheConstants as code
+use Rattle.v4_options.specs.OptionTable.{code_named}
 use Rattle.conf_directives.specs.declared.names.CodeList.{CodeList}
 use Rattle.conf_directives.specs.declared.names.CodeList.TheVariants.{Asked, Refused, Required}
 use Rattle.conf_directives.specs.declared.option_words.OptionWord.{OptionWord}
 use Rattle.conf_directives.specs.declared.option_words.OptionWord.TheVariants.{Taken, RapidCommit, Noticed, Wrong}
 use Rattle.conf_directives.specs.Words.{options_of}
-use Rattle.conf_directives.specs.Names.{named}
 use Rattle.conf_directives.specs.Contents.{CodesContent, SaidContent}
 use Rattle.conf_directives.specs.Contents as contents
-
-abbrev pub option_rows : List (List ℕ × ℕ)
-option_rows =
-    (codes "subnet_mask", code.SUBNET_MASK)
-    ∷ (codes "routers", code.ROUTERS)
-    ∷ (codes "domain_name_servers", code.DOMAIN_NAME_SERVERS)
-    ∷ (codes "host_name", code.HOST_NAME)
-    ∷ (codes "domain_name", code.DOMAIN_NAME)
-    ∷ (codes "interface_mtu", code.INTERFACE_MTU)
-    ∷ (codes "broadcast_address", code.BROADCAST_ADDRESS)
-    ∷ (codes "ntp_servers", code.NTP_SERVERS)
-    ∷ (codes "dhcp_lease_time", code.LEASE_TIME)
-    ∷ (codes "dhcp_server_identifier", code.SERVER_IDENTIFIER)
-    ∷ (codes "dhcp_renewal_time", code.RENEWAL_TIME)
-    ∷ (codes "dhcp_rebinding_time", code.REBINDING_TIME)
-    ∷ (codes "domain_search", code.DOMAIN_SEARCH)
-    ∷ (codes "classless_static_routes", code.CLASSLESS_ROUTES)
-    ∷ []
 
 -- without these no lease is one
 abbrev pub is_needed : ℕ → Bool
@@ -64,7 +46,7 @@ abbrev pub option_word : CodeList → List ℕ → OptionWord
 option_word list word =
     if list_all is_ascii_digit word
     then number_in list (code_at word)
-    else name_in list word (named option_rows word)
+    else name_in list word (code_named word)
 
 -- ---- what a line of them says
 

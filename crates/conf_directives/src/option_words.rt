@@ -5,15 +5,15 @@ ghost use Rattle.std.specs.Char.{is_ascii_digit};
 ghost use Rattle.conf_directives.specs.Contents.{codes_content, said_content};
 ghost use Rattle.conf_directives.specs.Codes.{are_right, is_needed, is_noticed, is_rapid, is_wrong};
 ghost use Rattle.conf_directives.specs.Codes.{code_at, code_in, codes_by, codes_in, codes_of, codes_said, taken_code};
-ghost use Rattle.conf_directives.specs.Codes.{name_in, number_in, option_rows, option_word, other_in};
-ghost use Rattle.conf_directives.specs.Names.{named};
+ghost use Rattle.conf_directives.specs.Codes.{name_in, number_in, option_word, other_in};
+ghost use Rattle.v4_options.specs.OptionTable.{code_named};
 
-use crate::names::{CodeList, named};
+use crate::names::CodeList;
 use crate::values::{CodesSaid, Directive, LineSaid};
 use crate::words::all_options;
 use net_types::{NoMemory, u8_of};
 use std::alloc::{AllocError, Global};
-use v4_options::code;
+use v4_options::{code, code_named};
 
 /// What a word says in a list of options.
 #[derive(Clone, Copy)]
@@ -26,29 +26,6 @@ pub(crate) enum OptionWord {
     Noticed,
     /// A number that is no code.
     Wrong,
-}
-
-/// The code that a name is for.
-fn option_named(word: &[u8]) -> Option<u8>
-    ensures { result ≡ named option_rows word.now }
-{
-    let rows = [
-        ("subnet_mask", code::SUBNET_MASK),
-        ("routers", code::ROUTERS),
-        ("domain_name_servers", code::DOMAIN_NAME_SERVERS),
-        ("host_name", code::HOST_NAME),
-        ("domain_name", code::DOMAIN_NAME),
-        ("interface_mtu", code::INTERFACE_MTU),
-        ("broadcast_address", code::BROADCAST_ADDRESS),
-        ("ntp_servers", code::NTP_SERVERS),
-        ("dhcp_lease_time", code::LEASE_TIME),
-        ("dhcp_server_identifier", code::SERVER_IDENTIFIER),
-        ("dhcp_renewal_time", code::RENEWAL_TIME),
-        ("dhcp_rebinding_time", code::REBINDING_TIME),
-        ("domain_search", code::DOMAIN_SEARCH),
-        ("classless_static_routes", code::CLASSLESS_ROUTES),
-    ];
-    named(&rows, word)
 }
 
 /// Whether no lease is one without it.
@@ -100,9 +77,9 @@ fn number_in(list: CodeList, word: &[u8]) -> OptionWord
 }
 
 fn name_in(list: CodeList, word: &[u8]) -> OptionWord
-    ensures { result ≡ name_in list word.now (named option_rows word.now) }
+    ensures { result ≡ name_in list word.now (code_named word.now) }
 {
-    match option_named(word) {
+    match code_named(word) {
         Some(number) => code_in(list, number),
         None => other_in(list, word),
     }

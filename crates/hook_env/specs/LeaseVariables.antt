@@ -1,20 +1,21 @@
 -- The variables of what is held of IPv4.
-use Rattle.std.specs.Prelude.{ℕ, List, [], ◌∷◌, ◌++◌, flat_map, map, Option, Some, None, decimal}
+use Rattle.std.specs.Prelude.{ℕ, List, [], ◌∷◌, ◌++◌, flat_map, map, Option, Some, None, decimal, if◌then◌else◌}
 use Rattle.std.specs.Option.{option_and_then}
 use Rattle.net_types.specs.declared.address.Net4.{Net4}
 use Rattle.net_types.specs.AddressText.{ip4_text}
 use Rattle.net_types.specs.Networks.{mask_of}
 use Rattle.lease_text.specs.Leases.{LeaseContent, ValueContent}
-use Rattle.lease_text.specs.ValueForms.{form_of}
+use Rattle.v4_options.specs.declared.table.OptionRow.{OptionRow}
+use Rattle.v4_options.specs.declared.table.TheConstants.{OPTIONS}
+use Rattle.v4_options.specs.OptionTable.{option_name}
 use Rattle.world.specs.HookCalls.{Variable}
 use Rattle.hook_env.specs.declared.situation.Stage.{Stage}
 use Rattle.hook_env.specs.declared.variables.NetVariable.{NetVariable}
 use Rattle.hook_env.specs.declared.variables.NetVariable.TheVariants.{Address, Length, Mask}
-use Rattle.hook_env.specs.declared.variables.OptionVariable.{OptionVariable}
-use Rattle.hook_env.specs.declared.variables.TheConstants.{NET_VARIABLES, OPTION_VARIABLES}
+use Rattle.hook_env.specs.declared.variables.TheConstants.{NET_VARIABLES}
 use Rattle.hook_env.specs.Stages.{prefix}
 use Rattle.hook_env.specs.ValueTexts.{value_in, value_text}
-use Rattle.hook_env.specs.Words.{lease_time_word, net_word, option_code, option_word, server_word}
+use Rattle.hook_env.specs.Words.{lease_time_word, net_word, server_word}
 
 abbrev pub variable : (name value : List ℕ) → Variable
 variable name value = record { name = name; value = value }
@@ -44,16 +45,17 @@ net_variables stage net = map (net_told stage net) NET_VARIABLES
 
 -- ---- a DHCPv4 lease
 
--- the value of the option, read in the form of its code
-abbrev pub option_value : List ValueContent → OptionVariable → Option (List ℕ)
-option_value values variable =
-    option_and_then (value_text (form_of (option_code variable))) (value_in (option_code variable) values)
+-- the value of the option, read in its form
+abbrev pub option_value : List ValueContent → OptionRow → Option (List ℕ)
+option_value values row = option_and_then (value_text row.form) (value_in row.code values)
 
-abbrev pub option_told : Stage → List ValueContent → OptionVariable → List Variable
-option_told stage values variable = told_if stage (option_word variable) (option_value values variable)
+-- of an option that a lease keeps
+abbrev pub option_told : Stage → List ValueContent → OptionRow → List Variable
+option_told stage values row =
+    if row.kept then told_if stage (option_name row.code) (option_value values row) else []
 
 abbrev pub option_variables : Stage → List ValueContent → List Variable
-option_variables stage values = flat_map (option_told stage values) OPTION_VARIABLES
+option_variables stage values = flat_map (option_told stage values) OPTIONS
 
 -- how long it lasts, and who granted it; the time of a lease without end is 4294967295 (RFC 2131, section 3.3)
 abbrev pub term_variables : Stage → LeaseContent → List Variable

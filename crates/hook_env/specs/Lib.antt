@@ -6,4 +6,3 @@ pub mod Situations
 pub mod LeaseVariables
 pub mod Lease6Variables
 pub mod Jobs
-pub mod OptionOrder

@@ -8,8 +8,8 @@ use Rattle.v4_options.specs.DomainNames.SearchList.{search_in}
 use Rattle.v4_options.specs.Numbers.{addr_in, addrs_in, u16_in, u32_in}
 use Rattle.v4_options.specs.Routes.{routes_in}
 use Rattle.v6_options.specs.Readers.{dns6_in, search6_in}
-use Rattle.lease_text.specs.declared.form.ValueForm.{ValueForm}
-use Rattle.lease_text.specs.declared.form.ValueForm.TheVariants.{Address, Addresses, Number16, Number32, DomainName, DomainNames, Routes, Opaque}
+use Rattle.v4_options.specs.declared.form.ValueForm.{ValueForm}
+use Rattle.v4_options.specs.declared.form.ValueForm.TheVariants.{Address, Addresses, Number16, Number32, DomainName, DomainNames, Routes, Opaque}
 use Rattle.lease_text.specs.Leases.{ValueContent}
 use Rattle.hook_env.specs.Lists.{listed, route_text}
 

@@ -6,10 +6,10 @@ ghost use Rattle.lease_text.specs.Leases.{values_content};
 ghost use Rattle.hook_env.specs.ValueTexts.{address_text, addresses_text, names_text, number16_text, number32_text, routes_text, servers6_text, names6_text, value_in, value_text};
 
 use crate::lists::{ip4_texts, ip6_texts, listed, route_texts};
-use lease_text::{Value, ValueForm};
+use lease_text::Value;
 use net_types::NoMemory;
 use std::alloc::Global;
-use v4_options::{addr_of, addrs_of, routes_of, search_of, text_of, u16_of, u32_of};
+use v4_options::{ValueForm, addr_of, addrs_of, routes_of, search_of, text_of, u16_of, u32_of};
 use v6_options::{dns6_of, search6_of};
 
 /// The value of a code as it is kept.

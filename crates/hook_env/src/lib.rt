@@ -17,4 +17,4 @@ mod variables;
 pub use constants::variables_are_these;
 pub use jobs::{job, lease_vars, lease6_vars};
 pub use situation::{Held, Situation, Stage};
-pub use variables::{JobVariable, Lease6Variable, NetVariable, OptionVariable};
+pub use variables::{JobVariable, Lease6Variable, NetVariable};

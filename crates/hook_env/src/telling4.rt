@@ -9,13 +9,11 @@ ghost use Rattle.hook_env.specs.LeaseVariables.{lease_variables, net_told, net_v
 use crate::forms::{value_in, value_text};
 use crate::situation::Stage;
 use crate::telling::{push_if, push_told};
-use crate::variables::{
-    NET_VARIABLES, NetVariable, OPTION_VARIABLES, OptionVariable, net_word, option_code,
-    option_word,
-};
-use lease_text::{Lease4, Value, form_of};
+use crate::variables::{NET_VARIABLES, NetVariable, net_word};
+use lease_text::{Lease4, Value};
 use net_types::{Net4, NoMemory};
 use std::alloc::Global;
+use v4_options::{OPTIONS, OptionRow, code, option_name};
 use world::HookVar;
 
 fn net_value(alloc: Global, net: Net4, variable: NetVariable) -> Result<String, NoMemory>
@@ -51,16 +49,11 @@ pub(crate) fn add_net(into: &mut Vec<HookVar>, stage: Stage, net: Net4) -> Resul
     Ok(())
 }
 
-fn option_value(
-    alloc: Global,
-    values: &[Value],
-    variable: OptionVariable,
-) -> Result<Option<String>, NoMemory>
-    ensures { IfOk result (λ text. option_map string_bytes text ≡ option_value (values_content values.now) variable) }
+fn option_value(alloc: Global, values: &[Value], row: OptionRow) -> Result<Option<String>, NoMemory>
+    ensures { IfOk result (λ text. option_map string_bytes text ≡ option_value (values_content values.now) row) }
 {
-    let code = option_code(variable);
-    match value_in(values, u16::from(code)) {
-        Some(value) => value_text(alloc, form_of(code), value),
+    match value_in(values, u16::from(row.code)) {
+        Some(value) => value_text(alloc, row.form, value),
         None => Ok(None),
     }
 }
@@ -69,14 +62,17 @@ fn push_option(
     into: &mut Vec<HookVar>,
     stage: Stage,
     values: &[Value],
-    variable: OptionVariable,
+    row: OptionRow,
 ) -> Result<(), NoMemory>
     ensures { OnOk result
         (map variable_of into.new.items
-        ≡ map variable_of into.old.items ++ option_told stage (values_content values.now) variable) }
+        ≡ map variable_of into.old.items ++ option_told stage (values_content values.now) row) }
 {
-    let value = option_value(*into.allocator(), values, variable)?;
-    push_if(into, stage, option_word(variable), value)
+    if !row.kept {
+        return Ok(());
+    }
+    let value = option_value(*into.allocator(), values, row)?;
+    push_if(into, stage, option_name(row.code), value)
 }
 
 fn add_options(into: &mut Vec<HookVar>, stage: Stage, values: &[Value]) -> Result<(), NoMemory>
@@ -84,8 +80,8 @@ fn add_options(into: &mut Vec<HookVar>, stage: Stage, values: &[Value]) -> Resul
         (map variable_of into.new.items
         ≡ map variable_of into.old.items ++ option_variables stage (values_content values.now)) }
 {
-    for variable in OPTION_VARIABLES {
-        push_option(into, stage, values, variable)?;
+    for row in OPTIONS {
+        push_option(into, stage, values, row)?;
     }
     Ok(())
 }
@@ -100,8 +96,8 @@ fn add_terms(into: &mut Vec<HookVar>, stage: Stage, lease: &Lease4) -> Result<()
     let alloc = *into.allocator();
     let time = format!(in alloc; "{}", lease.lease)?;
     let server = format!(in alloc; "{}", lease.server)?;
-    push_told(into, stage, "dhcp_lease_time", time)?;
-    push_told(into, stage, "dhcp_server_identifier", server)
+    push_told(into, stage, option_name(code::LEASE_TIME), time)?;
+    push_told(into, stage, option_name(code::SERVER_IDENTIFIER), server)
 }
 
 /// Appends the variables of a DHCPv4 lease.

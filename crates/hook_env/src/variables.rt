@@ -1,8 +1,6 @@
 //! The variables by their names, as in dhcpcd-run-hooks(8).
 ghost use Rattle.std.specs.Prelude.{◌≡◌};
-ghost use Rattle.hook_env.specs.Words.{job_word, lease6_word, net_word, option_code, option_word};
-
-use v4_options::code;
+ghost use Rattle.hook_env.specs.Words.{job_word, lease6_word, net_word};
 
 /// A variable that each job has.
 #[derive(Clone, Copy, PartialEq, Eq)]
@@ -54,66 +52,6 @@ pub(crate) fn net_word(variable: NetVariable) -> &'static str
         NetVariable::Address => "ip_address",
         NetVariable::Length => "subnet_cidr",
         NetVariable::Mask => "subnet_mask",
-    }
-}
-
-/// A variable that is the value of an option of a DHCPv4 lease.
-#[derive(Clone, Copy, PartialEq, Eq)]
-pub enum OptionVariable {
-    BroadcastAddress,
-    Routers,
-    DomainNameServers,
-    DomainName,
-    DomainSearch,
-    HostName,
-    InterfaceMtu,
-    NtpServers,
-    ClasslessRoutes,
-}
-
-/// The variables that are values of options, in order.
-pub const OPTION_VARIABLES: [OptionVariable; 9] = [
-    OptionVariable::BroadcastAddress,
-    OptionVariable::Routers,
-    OptionVariable::DomainNameServers,
-    OptionVariable::DomainName,
-    OptionVariable::DomainSearch,
-    OptionVariable::HostName,
-    OptionVariable::InterfaceMtu,
-    OptionVariable::NtpServers,
-    OptionVariable::ClasslessRoutes,
-];
-
-pub(crate) fn option_word(variable: OptionVariable) -> &'static str
-    ensures { result.now ≡ option_word variable }
-{
-    match variable {
-        OptionVariable::BroadcastAddress => "broadcast_address",
-        OptionVariable::Routers => "routers",
-        OptionVariable::DomainNameServers => "domain_name_servers",
-        OptionVariable::DomainName => "domain_name",
-        OptionVariable::DomainSearch => "domain_search",
-        OptionVariable::HostName => "host_name",
-        OptionVariable::InterfaceMtu => "interface_mtu",
-        OptionVariable::NtpServers => "ntp_servers",
-        OptionVariable::ClasslessRoutes => "classless_static_routes",
-    }
-}
-
-/// The code of the option (RFC 2132, RFC 3397, RFC 3442).
-pub(crate) fn option_code(variable: OptionVariable) -> u8
-    ensures { result ≡ option_code variable }
-{
-    match variable {
-        OptionVariable::BroadcastAddress => code::BROADCAST_ADDRESS,
-        OptionVariable::Routers => code::ROUTERS,
-        OptionVariable::DomainNameServers => code::DOMAIN_NAME_SERVERS,
-        OptionVariable::DomainName => code::DOMAIN_NAME,
-        OptionVariable::DomainSearch => code::DOMAIN_SEARCH,
-        OptionVariable::HostName => code::HOST_NAME,
-        OptionVariable::InterfaceMtu => code::INTERFACE_MTU,
-        OptionVariable::NtpServers => code::NTP_SERVERS,
-        OptionVariable::ClasslessRoutes => code::CLASSLESS_ROUTES,
     }
 }
 

@@ -8,7 +8,8 @@ use Rattle.net_types.specs.NameText.{FitsName}
 use Rattle.lease_text.specs.declared.lease.Terms4.{Terms4}
 use Rattle.lease_text.specs.declared.lease.TheConstants.{INFINITE_LEASE, LONGEST_PREFIX, VALUE_LIMIT}
 use Rattle.lease_text.specs.Leases.{ValueContent, LeaseContent, terms_of, is_host_address}
-use Rattle.lease_text.specs.ValueForms.{is_kept, is_well_formed}
+use Rattle.v4_options.specs.OptionTable.{is_kept}
+use Rattle.v4_options.specs.ValueForms.{is_well_formed}
 
 -- the times of an infinite lease are infinite too
 pub record FitsTerms (terms : Terms4) : Type 0 where

@@ -22,7 +22,8 @@ use Rattle.lease_text.specs.declared.reading.TermLine.TheVariants.{OriginMac, Co
 use Rattle.lease_text.specs.Bounds.{HasText}
 use Rattle.lease_text.specs.Leases.{ValueContent, LeaseContent, lease_with, values_content, is_host_address}
 use Rattle.lease_text.specs.LeaseLines.{first_version, second_version, version_line, end_line, interface_word, mac_word, confirmed_word, address_word, server_word, server_mac_word, first_word, lease_word, renewal_word, rebinding_word, option_word, option_line, holder_lines, grant_lines, head_lines, lease4_lines}
-use Rattle.lease_text.specs.ValueForms.{is_kept, is_well_formed}
+use Rattle.v4_options.specs.OptionTable.{is_kept}
+use Rattle.v4_options.specs.ValueForms.{is_well_formed}
 
 -- the line that comes next, and what those before it said; what no line said yet is anything that makes a lease which
 -- fits

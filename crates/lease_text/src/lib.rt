@@ -5,7 +5,6 @@
 #![tactic(auto)]
 
 mod constants;
-mod form;
 mod laws;
 mod lease;
 mod printing;
@@ -13,7 +12,6 @@ mod reading;
 mod typed;
 
 pub use constants::bounds_of_leases;
-pub use form::{KEPT_CODES, ValueForm, form_of, is_kept, is_well_formed};
 pub use laws::leases_are_read_back;
 pub use lease::{
     INFINITE_LEASE, LONGEST_PREFIX, Lease4, Origin, Terms4, VALUE_LIMIT, Value, copied_values,

@@ -12,7 +12,6 @@ ghost use Rattle.lease_text.specs.Leases.{LeaseContent, lease_content, value_con
 ghost use Rattle.lease_text.specs.LeaseLines.{SpellsLease4, interface_word};
 ghost use Rattle.lease_text.specs.LeaseReading.{Reading, reading_of, host_net_at, seconds_at, least_renewal, with_mac, with_confirmed, term_in, after_term, version_at, after_interface, last_code, may_follow, value_at, step, step_at, given, start, After, AnyCause};
 
-use crate::form::{is_kept, is_well_formed};
 use crate::lease::{INFINITE_LEASE, Lease4, Origin, Terms4, VALUE_LIMIT, Value, is_host_address};
 use net_types::{
     BadText, Ip4, LineFault, LineState, MOMENT_LIMIT, Mac, Name, Net4, NoMemory, TextFault, end_of,
@@ -20,6 +19,7 @@ use net_types::{
     u8_of,
 };
 use std::alloc::Global;
+use v4_options::{is_kept, is_well_formed};
 
 /// One more than the greatest number of seconds.
 const SECONDS_LIMIT: u64 = 0x1_0000_0000;

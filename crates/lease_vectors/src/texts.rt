@@ -2,10 +2,11 @@
 
 use crate::asking::text;
 use duid_text::{link_layer_duid, print_duid, read_duid};
-use lease_text::{Origin, is_host_address, is_kept, is_well_formed, print4, read_lease4};
+use lease_text::{Origin, is_host_address, print4, read_lease4};
 use lease6_text::{print6, read_lease6};
 use net_types::{BadText, Hex, NoMemory, TextFault, read_ip4, read_mac};
 use std::alloc::Global;
+use v4_options::{is_kept, is_well_formed};
 
 /// Where a lease comes from.
 fn origin_said(alloc: Global, origin: Option<Origin>) -> Result<String, NoMemory> {

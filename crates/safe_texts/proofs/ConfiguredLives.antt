@@ -1,7 +1,8 @@
 -- In the life of interfaces that a configuration manages each variable of a job is printable.
-use Rattle.std.proofs.Common.{◌≡◌, ℕ, ◌≤◌, true, List, ◌++◌, flat_map, length, refl, sym, subst, arith, leb}
-use Rattle.std.specs.List.{AllByRecursion, Contains}
-use Rattle.std.proofs.lemmas.Bool.{leb-true}
+use Rattle.std.proofs.Common.{◌≡◌, ℕ, ◌≤◌, Bool, true, ◌&&◌, List, [], ◌∷◌, ◌++◌, flat_map, length, refl, sym, subst, arith, leb}
+use Rattle.std.specs.Prelude.{not, ◌==◌}
+use Rattle.std.specs.List.{AllByRecursion, Contains, list_all}
+use Rattle.std.proofs.lemmas.Bool.{and_parts, leb-true}
 use Rattle.std.proofs.lemmas.List.{length-append}
 use Rattle.std.proofs.lemmas.List.Elements.{All-contains, All-from_recursion}
 use Rattle.net_types.proofs.AllLaws.{all_join, all_map}
@@ -12,6 +13,9 @@ use Rattle.world.specs.HookCalls.{Job, Variable}
 use Rattle.settings.specs.Fitting.{AreManaged}
 use Rattle.settings.specs.declared.interfaces.Managed.{Managed}
 use Rattle.conf_text.proofs.ConfFits.{settings_fit}
+use Rattle.v4_options.specs.declared.table.OptionRow.{OptionRow}
+use Rattle.v4_options.specs.declared.table.TheConstants.{OPTIONS}
+use Rattle.v4_options.specs.OptionTable.{option_name}
 use Rattle.hook_env.specs.declared.situation.Stage.{Stage}
 use Rattle.hook_env.specs.declared.situation.Stage.TheVariants.{Before, Now}
 use Rattle.hook_env.specs.Stages.{prefix}
@@ -20,7 +24,7 @@ use Rattle.safe_texts.specs.ConfiguredTexts.{ConfiguredLivesAreLives, HasPlainVa
 use Rattle.safe_texts.specs.Grammars.{Form}
 use Rattle.safe_texts.specs.ResolverLines.{HasServers}
 use Rattle.safe_texts.specs.SafeJobs.{IsSafeJob, job_in}
-use Rattle.safe_texts.specs.SafeVariables.{HELD_FORMS, IsNamed, IsSafe, JOB_FORMS, OfHeld, OfJob}
+use Rattle.safe_texts.specs.SafeVariables.{HELD_FORMS, IsNamed, IsSafe, JOB_FORMS, OfHeld, OfJob, OfOption}
 use Rattle.safe_texts.proofs.LifeJobs.{life_jobs_are_safe}
 use Rattle.safe_texts.proofs.PlainConfigurations.{configured_texts_are_safe}
 
@@ -49,22 +53,32 @@ job_rows : AllByRecursion PlainRow JOB_FORMS
 job_rows = (shown, (shown, (shown, (shown, tt))))
 
 held_rows : AllByRecursion PlainRow HELD_FORMS
-held_rows = (
-  shown,
-  (
-    shown,
-    (shown, (shown, (shown, (shown, (shown, (shown, (shown, (shown, (shown, (shown, (shown, (shown, (shown, (shown, (shown, (shown, (shown, tt))))))))))))))))),
-  ),
-)
+held_rows = (shown, (shown, (shown, (shown, (shown, (shown, (shown, (shown, (shown, (shown, tt))))))))))
+
+-- the same of an option of the table, as a test
+abbrev is_plain_row : OptionRow → Bool
+is_plain_row row =
+    let name : List ℕ = option_name row.code in
+    list_all is_printable name && (list_all (λ byte. not (byte == 61)) name && leb 1 (length name))
+
+passes_among : {A : Type 0} (test : A → Bool) (xs : List A) → list_all test xs ≡ true → AllByRecursion (λ x. test x ≡ true) xs
+passes_among test [] e = tt
+passes_among test (x ∷ xs) e = let both = and_parts (test x) (list_all test xs) e in (both.0, passes_among test xs both.1)
+
+option_plain : (row : OptionRow) → Contains OPTIONS row → IsPlainName (option_name row.code)
+option_plain row among =
+    let name : List ℕ = option_name row.code in
+    let plain : is_plain_row row ≡ true = among_all (λ row. is_plain_row row ≡ true) OPTIONS row (passes_among is_plain_row OPTIONS refl) among in
+    let printable = and_parts (list_all is_printable name) _ plain in
+    let parted = and_parts (list_all (λ byte. not (byte == 61)) name) (leb 1 (length name)) printable.1 in
+    record { printable = printable.0; parted = parted.0; some = leb-true 1 (length name) parted.1 }
 
 prefix_plain : (stage : Stage) → IsPrintable (prefix stage) × Lacks 61 (prefix stage)
 prefix_plain Before = (refl, refl)
 prefix_plain Now = (refl, refl)
 
-name_plain : {name : List ℕ} {form : Form} → IsNamed name form → IsPlainName name
-name_plain (OfJob word form among) = row_plain (word, form) (among_all PlainRow JOB_FORMS (word, form) job_rows among)
-name_plain (OfHeld stage word form among) =
-    let plain : IsPlainName word = row_plain (word, form) (among_all PlainRow HELD_FORMS (word, form) held_rows among) in
+behind_plain : (stage : Stage) (word : List ℕ) → IsPlainName word → IsPlainName (prefix stage ++ word)
+behind_plain stage word plain =
     let whole = length-append (prefix stage) word in
     let least = plain.some in
     record {
@@ -72,6 +86,12 @@ name_plain (OfHeld stage word form among) =
       parted = lacks-append 61 (prefix stage) word (prefix_plain stage).1 plain.parted;
       some = omega (arith, whole, least);
     }
+
+name_plain : {name : List ℕ} {form : Form} → IsNamed name form → IsPlainName name
+name_plain (OfJob word form among) = row_plain (word, form) (among_all PlainRow JOB_FORMS (word, form) job_rows among)
+name_plain (OfHeld stage word form among) =
+    behind_plain stage word (row_plain (word, form) (among_all PlainRow HELD_FORMS (word, form) held_rows among))
+name_plain (OfOption stage row among kept) = behind_plain stage (option_name row.code) (option_plain row among)
 
 -- ---- variables
 

@@ -5,8 +5,8 @@ use Rattle.std.specs.Prelude.{IfSome}
 use Rattle.std.specs.Option.{option_and_then, option_map}
 use Rattle.hook_env.specs.Lists.{listed, route_text}
 use Rattle.hook_env.specs.ValueTexts.{names6_text, servers6_text, value_text}
-use Rattle.lease_text.specs.declared.form.ValueForm.{ValueForm}
-use Rattle.lease_text.specs.declared.form.ValueForm.TheVariants.{Address, Addresses, Number16, Number32, DomainName, DomainNames, Routes, Opaque}
+use Rattle.v4_options.specs.declared.form.ValueForm.{ValueForm}
+use Rattle.v4_options.specs.declared.form.ValueForm.TheVariants.{Address, Addresses, Number16, Number32, DomainName, DomainNames, Routes, Opaque}
 use Rattle.net_types.proofs.CaseLaws.{gated}
 use Rattle.net_types.specs.AddressText.{ip4_text, ip6_text}
 use Rattle.net_types.specs.declared.address.Ip4.{Ip4}
@@ -18,6 +18,7 @@ use Rattle.v6_options.specs.Readers.{addresses_in, dns6_in, search6_in}
 use Rattle.domain_names.specs.SearchList.{search_in}
 use Rattle.safe_texts.specs.Grammars.{Form, HasForm, HasGrammar, IsListOf, One, Several, Number, Address4, Route4, Address6}
 use Rattle.safe_texts.specs.Grammars as grammar
+use Rattle.safe_texts.specs.SafeVariables.{option_form}
 use Rattle.safe_texts.proofs.NumberTexts.{chosen_by, decimal_made}
 use Rattle.safe_texts.proofs.AddressBytes.{ip4_made, ip6_made, route_made}
 use Rattle.safe_texts.proofs.DomainTexts.{AreSomeNames, search6_named, search_named, text_named}
@@ -86,20 +87,10 @@ dns6_some value =
 
 -- ---- the texts
 
-abbrev pub form_for : ValueForm → Form
-form_for Address = One Address4
-form_for Addresses = Several Address4
-form_for Number16 = One (Number (2 ^ 16))
-form_for Number32 = One (Number (2 ^ 32))
-form_for DomainName = One grammar.DomainName
-form_for DomainNames = Several grammar.DomainName
-form_for Routes = Several Route4
-form_for Opaque = One (Number (2 ^ 32))
-
 pub names_listed : (names : List (List ℕ)) → AreSomeNames names → IsListOf (HasGrammar grammar.DomainName) (listed names)
 names_listed names are = record { texts = names; some = are.some; listed = refl; each = are.each }
 
-pub value_formed : (form : ValueForm) (value : List ℕ) → IfSome (value_text form value) (HasForm (form_for form))
+pub value_formed : (form : ValueForm) (value : List ℕ) → IfSome (value_text form value) (HasForm (option_form form))
 value_formed Address value = any_read (HasForm (One Address4)) ip4_text ip4_made (addr_in value)
 value_formed Addresses value =
     of_read Filled (IsListOf (HasGrammar Address4)) (λ (found : List Ip4). listed (map ip4_text found)) (values_listed (HasGrammar Address4) ip4_text ip4_made)

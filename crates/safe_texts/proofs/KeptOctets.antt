@@ -11,8 +11,8 @@ use Rattle.net_types.specs.declared.interface.IfSpec.{IfSpec}
 use Rattle.net_types.specs.declared.interface.Name.{Name}
 use Rattle.lease_text.specs.Bounds.{HasText}
 use Rattle.lease_text.specs.Leases.{LeaseContent, ValueContent}
-use Rattle.lease_text.specs.ValueForms.{is_well_formed}
-use Rattle.lease_text.specs.declared.form.TheConstants.{KEPT_CODES}
+use Rattle.v4_options.specs.ValueForms.{is_well_formed}
+use Rattle.v4_options.specs.declared.table.TheConstants.{KEPT_CODES}
 use Rattle.lease_text.specs.declared.lease.TheConstants.{VALUE_LIMIT}
 use Rattle.lease6_text.specs.Bounds.{HasText6}
 use Rattle.lease6_text.specs.Leases.{Lease6Content}

@@ -16,7 +16,9 @@ use Rattle.world.specs.declared.reasons.Reason.{Reason}
 use Rattle.world.specs.declared.reasons.Reason.TheVariants.{Preinit, Carrier, NoCarrier, StaticLine, Bound, Reboot, Renew, Rebind, Nak, Expire, Timeout, Ipv4ll, Stop, Stop6, Stopped, Bound6, Reboot6, Renew6, Rebind6, Expire6, Delegated6}
 use Rattle.lease_text.specs.Bounds.{HasText}
 use Rattle.lease_text.specs.Leases.{LeaseContent, ValueContent}
-use Rattle.lease_text.specs.ValueForms.{form_of}
+use Rattle.v4_options.specs.declared.table.OptionRow.{OptionRow}
+use Rattle.v4_options.specs.declared.table.TheConstants.{OPTIONS}
+use Rattle.v4_options.specs.OptionTable.{option_name}
 use Rattle.lease6_text.specs.Bounds.{FitsIa, FitsItem, HasText6, IsTypedIa}
 use Rattle.lease6_text.specs.declared.lease.Item6.{Item6}
 use Rattle.lease6_text.specs.Leases.{IaLeaseContent, Lease6Content}
@@ -29,23 +31,22 @@ use Rattle.hook_env.specs.declared.variables.JobVariable.{JobVariable}
 use Rattle.hook_env.specs.declared.variables.JobVariable.TheVariants as job
 use Rattle.hook_env.specs.declared.variables.NetVariable.{NetVariable}
 use Rattle.hook_env.specs.declared.variables.NetVariable.TheVariants as net
-use Rattle.hook_env.specs.declared.variables.OptionVariable.{OptionVariable}
 use Rattle.hook_env.specs.declared.variables.Lease6Variable.{Lease6Variable}
 use Rattle.hook_env.specs.declared.variables.Lease6Variable.TheVariants as lease6
-use Rattle.hook_env.specs.declared.variables.TheConstants.{JOB_VARIABLES, LEASE6_VARIABLES, NET_VARIABLES, OPTION_VARIABLES}
+use Rattle.hook_env.specs.declared.variables.TheConstants.{JOB_VARIABLES, LEASE6_VARIABLES, NET_VARIABLES}
 use Rattle.hook_env.specs.Jobs.{carrier_word, held_variables, job_said, made_variables, variables_if}
 use Rattle.hook_env.specs.Lease6Variables.{address_item, addresses_in, ia_addresses, ia_prefixes, lease6_told, lease6_value, prefix_item, prefixes_in}
 use Rattle.hook_env.specs.LeaseVariables.{lease_variables, net_told, net_variables, option_told, option_value, option_variables, term_variables, told, told_if}
 use Rattle.hook_env.specs.Situations.{HeldContent, SituationContent, Nothing, Leased4, Address4, Leased6, Delegated}
-use Rattle.hook_env.specs.Stages.{tells_before, tells_now}
+use Rattle.hook_env.specs.Stages.{prefix, tells_before, tells_now}
 use Rattle.hook_env.specs.ValueTexts.{names6_text, servers6_text, value_in, value_text}
-use Rattle.hook_env.specs.Words.{delegated_word, job_word, lease6_word, lease_time_word, net_word, option_code, option_word, server_word}
+use Rattle.hook_env.specs.Words.{delegated_word, job_word, lease6_word, lease_time_word, net_word, server_word}
 use Rattle.safe_texts.specs.Grammars.{Form, IsOfForm, IsOneOf, One, Several, OneOf, Number, Spells}
 use Rattle.safe_texts.specs.Grammars as grammar
 use Rattle.safe_texts.specs.ExactVariables.{AreExact, FitsHeld, FitsSituation, IsExact, MadeVariablesAreExact}
-use Rattle.safe_texts.specs.SafeVariables.{HELD_FORMS, JOB_FORMS, OfHeld, OfJob, REASONS}
-use Rattle.safe_texts.proofs.FormedValues.{form_for}
-use Rattle.safe_texts.proofs.MadeOfEvents.{carrier_made, option_listed, reason_made}
+use Rattle.safe_texts.specs.SafeVariables.{HELD_FORMS, IsNamed, JOB_FORMS, OfHeld, OfJob, OfOption, REASONS, option_form}
+use Rattle.safe_texts.proofs.NumberTexts.{chosen_by}
+use Rattle.safe_texts.proofs.MadeOfEvents.{carrier_made, flat_among, reason_made}
 use Rattle.safe_texts.proofs.SpelledValues.{host_fits, ip4_spelled, ip6_spelled, mask_fits, names6_spelled, net6_spelled, number_below, servers6_spelled, value_spelled}
 use Rattle.safe_texts.proofs.TextLists.{all_mapped_so, texts_listed}
 
@@ -61,13 +62,17 @@ all_mapped f each (x ∷ xs) = (each x, all_mapped f each xs)
 
 -- ---- of what is held
 
-told_exact : (stage : Stage) (word value : List ℕ) (form : Form) → Contains HELD_FORMS (word, form) → IsOfForm form value → IsExact (told stage word value)
-told_exact stage word value form among exact = record { form = form; named = OfHeld stage word form among; exact = exact }
+named_exact : (stage : Stage) (word value : List ℕ) (form : Form) → IsNamed (prefix stage ++ word) form → IsOfForm form value
+    → IsExact (told stage word value)
+named_exact stage word value form named exact = record { form = form; named = named; exact = exact }
 
-told_if_exact : (stage : Stage) (word : List ℕ) (found : Option (List ℕ)) (form : Form) → Contains HELD_FORMS (word, form) → IfSome found (IsOfForm form)
+told_exact : (stage : Stage) (word value : List ℕ) (form : Form) → Contains HELD_FORMS (word, form) → IsOfForm form value → IsExact (told stage word value)
+told_exact stage word value form among exact = named_exact stage word value form (OfHeld stage word form among) exact
+
+told_if_exact : (stage : Stage) (word : List ℕ) (found : Option (List ℕ)) (form : Form) → IsNamed (prefix stage ++ word) form → IfSome found (IsOfForm form)
     → AreExact (told_if stage word found)
-told_if_exact stage word None form among exact = tt
-told_if_exact stage word (Some value) form among exact = (told_exact stage word value form among exact, tt)
+told_if_exact stage word None form named exact = tt
+told_if_exact stage word (Some value) form named exact = (named_exact stage word value form named exact, tt)
 
 below_next : (len : ℕ) → len ≤ 32 → len < 33
 below_next len short = omega (arith, short)
@@ -106,25 +111,25 @@ of_bytes : (Q : List ℕ → Type 0) (reading : List ℕ → Option (List ℕ)) 
 of_bytes Q reading each None h = tt
 of_bytes Q reading each (Some value) h = each value h
 
-option_exact : (stage : Stage) (values : List ValueContent) → AllByRecursion HasBytes values → (variable : OptionVariable)
-    → AreExact (option_told stage values variable)
-option_exact stage values all variable =
-    told_if_exact stage (option_word variable) (option_value values variable) (form_for (form_of (option_code variable))) (option_listed variable)
-    (of_bytes (IsOfForm (form_for (form_of (option_code variable)))) (value_text (form_of (option_code variable)))
-    (value_spelled (form_of (option_code variable)))
-    (value_in (option_code variable) values) (value_bytes (option_code variable) values all))
+option_exact : (stage : Stage) (values : List ValueContent) → AllByRecursion HasBytes values → (row : OptionRow) → Contains OPTIONS row
+    → AreExact (option_told stage values row)
+option_exact stage values all row among =
+    chosen_by AreExact row.kept (told_if stage (option_name row.code) (option_value values row)) []
+    (λ kept. told_if_exact stage (option_name row.code) (option_value values row) (option_form row.form) (OfOption stage row among kept)
+    (of_bytes (IsOfForm (option_form row.form)) (value_text row.form) (value_spelled row.form) (value_in row.code values) (value_bytes row.code values all)))
+    (λ e. tt)
 
 options_exact : (stage : Stage) (values : List ValueContent) → AllByRecursion HasBytes values → AreExact (option_variables stage values)
-options_exact stage values all = all_flat (option_told stage values) (option_exact stage values all) OPTION_VARIABLES
+options_exact stage values all = flat_among IsExact (option_told stage values) OPTIONS (option_exact stage values all)
 
 within : (n : ℕ) → n ≤ 4294967295 → n < 4294967296
 within n small = omega (arith, small)
 
 terms_exact : (stage : Stage) (lease : LeaseContent) → HasText lease → AreExact (term_variables stage lease)
 terms_exact stage lease has = (
-  told_exact stage lease_time_word (decimal lease.lease) (One (Number (2 ^ 32))) (12, omega arith, refl)
+  told_exact stage lease_time_word (decimal lease.lease) (One (Number (2 ^ 32))) (3, omega arith, refl)
       (number_below (2 ^ 32) lease.lease (within lease.lease has.typed.time)),
-  (told_exact stage server_word (ip4_text lease.server) (One grammar.Address4) (13, omega arith, refl) (ip4_spelled lease.server has.typed.server), tt),
+  (told_exact stage server_word (ip4_text lease.server) (One grammar.Address4) (4, omega arith, refl) (ip4_spelled lease.server has.typed.server), tt),
 )
 
 lease_exact : (stage : Stage) (lease : LeaseContent) → HasText lease → AreExact (lease_variables stage lease)
@@ -180,19 +185,23 @@ ias_fit lease has = all_both FitsIa IsTypedIa FitsIaTexts ia_fits lease.ias has.
 
 lease6_exact : (stage : Stage) (lease : Lease6Content) → HasText6 lease → (variable : Lease6Variable) → AreExact (lease6_told stage lease variable)
 lease6_exact stage lease has lease6.Addresses =
-    told_if_exact stage (lease6_word lease6.Addresses) (lease6_value lease lease6.Addresses) (Several grammar.Address6) (14, omega arith, refl)
+    told_if_exact stage (lease6_word lease6.Addresses) (lease6_value lease lease6.Addresses) (Several grammar.Address6)
+    (OfHeld stage (lease6_word lease6.Addresses) (Several grammar.Address6) (5, omega arith, refl))
     (texts_listed (Spells grammar.Address6) (flat_map ia_addresses lease.ias)
     (texts_of_all FitsIaTexts (Spells grammar.Address6) ia_addresses (λ ia fits. addresses_spelled ia.kind ia.items fits.each) lease.ias (ias_fit lease has)))
 lease6_exact stage lease has lease6.Prefixes =
-    told_if_exact stage (lease6_word lease6.Prefixes) (lease6_value lease lease6.Prefixes) (Several grammar.Network6) (15, omega arith, refl)
+    told_if_exact stage (lease6_word lease6.Prefixes) (lease6_value lease lease6.Prefixes) (Several grammar.Network6)
+    (OfHeld stage (lease6_word lease6.Prefixes) (Several grammar.Network6) (6, omega arith, refl))
     (texts_listed (Spells grammar.Network6) (flat_map ia_prefixes lease.ias)
     (texts_of_all FitsIaTexts (Spells grammar.Network6) ia_prefixes (λ ia fits. prefixes_spelled ia.kind ia.items fits.each) lease.ias (ias_fit lease has)))
 lease6_exact stage lease has lease6.NameServers =
-    told_if_exact stage (lease6_word lease6.NameServers) (lease6_value lease lease6.NameServers) (Several grammar.Address6) (16, omega arith, refl)
+    told_if_exact stage (lease6_word lease6.NameServers) (lease6_value lease lease6.NameServers) (Several grammar.Address6)
+    (OfHeld stage (lease6_word lease6.NameServers) (Several grammar.Address6) (7, omega arith, refl))
     (of_bytes (IsOfForm (Several grammar.Address6)) servers6_text servers6_spelled (value_in DNS_SERVERS lease.values)
     (value_bytes DNS_SERVERS lease.values has.typed.values))
 lease6_exact stage lease has lease6.DomainSearch =
-    told_if_exact stage (lease6_word lease6.DomainSearch) (lease6_value lease lease6.DomainSearch) (Several grammar.DomainName) (17, omega arith, refl)
+    told_if_exact stage (lease6_word lease6.DomainSearch) (lease6_value lease lease6.DomainSearch) (Several grammar.DomainName)
+    (OfHeld stage (lease6_word lease6.DomainSearch) (Several grammar.DomainName) (8, omega arith, refl))
     (of_bytes (IsOfForm (Several grammar.DomainName)) names6_text (λ value h. names6_spelled value) (value_in DOMAIN_LIST lease.values)
     (value_bytes DOMAIN_LIST lease.values has.typed.values))
 
@@ -202,7 +211,7 @@ held_exact stage (Leased4 lease) fits = lease_exact stage lease fits
 held_exact stage (Address4 held) fits = nets_exact stage held fits
 held_exact stage (Leased6 lease) fits = all_flat (lease6_told stage lease) (lease6_exact stage lease fits) LEASE6_VARIABLES
 held_exact stage (Delegated held) fits =
-    (told_exact stage delegated_word (net6_text held) (One grammar.Network6) (18, omega arith, refl) (net6_spelled held fits), tt)
+    (told_exact stage delegated_word (net6_text held) (One grammar.Network6) (9, omega arith, refl) (net6_spelled held fits), tt)
 
 if_told_exact : (tells : Bool) (stage : Stage) (held : HeldContent) → FitsHeld held → AreExact (variables_if tells stage held)
 if_told_exact true stage held fits = held_exact stage held fits

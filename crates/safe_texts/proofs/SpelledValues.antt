@@ -9,8 +9,8 @@ use Rattle.std.specs.Option.{option_map}
 use Rattle.hook_env.specs.Lists.{listed, route_text}
 use Rattle.hook_env.specs.ValueTexts.{names6_text, servers6_text, value_text}
 use Rattle.lease_text.specs.Leases.{first_byte, is_host_address}
-use Rattle.lease_text.specs.declared.form.ValueForm.{ValueForm}
-use Rattle.lease_text.specs.declared.form.ValueForm.TheVariants.{Address, Addresses, Number16, Number32, DomainName, DomainNames, Routes, Opaque}
+use Rattle.v4_options.specs.declared.form.ValueForm.{ValueForm}
+use Rattle.v4_options.specs.declared.form.ValueForm.TheVariants.{Address, Addresses, Number16, Number32, DomainName, DomainNames, Routes, Opaque}
 use Rattle.net_types.proofs.CaseLaws.{gated}
 use Rattle.net_types.proofs.Checksum.{append_bytes, drop_bytes, rest_bytes, take_bytes}
 use Rattle.net_types.proofs.HexLaws.{cons_bytes, no_bytes}
@@ -31,7 +31,8 @@ use Rattle.domain_names.specs.SearchList.{search_in}
 use Rattle.safe_texts.specs.Grammars.{IsAddress4, IsAddress6, IsListOf, IsNetwork4, IsNetwork6, IsNumberBelow, IsOfForm, IsPair, Number, One, Spells, Address4, Address6, Route4}
 use Rattle.safe_texts.specs.Grammars as grammar
 use Rattle.safe_texts.proofs.DomainTexts.{AreSomeNames, search6_named, search_named, text_named}
-use Rattle.safe_texts.proofs.FormedValues.{Filled, addrs_some, dns6_some, form_for, names_listed, of_read, routes_some}
+use Rattle.safe_texts.specs.SafeVariables.{option_form}
+use Rattle.safe_texts.proofs.FormedValues.{Filled, addrs_some, dns6_some, names_listed, of_read, routes_some}
 use Rattle.safe_texts.proofs.NumberTexts.{chosen_by}
 use Rattle.safe_texts.proofs.TextLists.{known_listed}
 
@@ -211,7 +212,7 @@ list_spelled {A} P Is text_of spelled found some each =
     of_read (AreSome P) (IsListOf Is) (λ (xs : List A). listed (map text_of xs)) (λ xs are. known_listed P Is text_of spelled xs are.some are.each) found
     (both P found some each)
 
-pub value_spelled : (form : ValueForm) (value : List ℕ) → AreBytes value → IfSome (value_text form value) (IsOfForm (form_for form))
+pub value_spelled : (form : ValueForm) (value : List ℕ) → AreBytes value → IfSome (value_text form value) (IsOfForm (option_form form))
 value_spelled Address value h = of_read FitsIp4 IsAddress4 ip4_text ip4_spelled (addr_in value) (addr_fits value h)
 value_spelled Addresses value h = list_spelled FitsIp4 IsAddress4 ip4_text ip4_spelled (addrs_in value) (addrs_some value) (addrs_fit value h)
 value_spelled Number16 value h = of_read (λ n. n < 2 ^ 16) (IsNumberBelow (2 ^ 16)) decimal (number_below (2 ^ 16)) (u16_in value) (u16_fits value h)

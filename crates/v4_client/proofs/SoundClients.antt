@@ -1,6 +1,7 @@
 -- A sound step of a sound client gives a sound client, and the values that a message brings are within the bounds.
-use Rattle.std.proofs.Common.{◌≡◌, ℕ, inl, inr, ◌<◌, Bool, true, false, ◌&&◌, List, [], ◌∷◌, ◌++◌, length, Option, Some, None, IfSome, option_map, refl, sym, ap, subst, arith, nat_le, lit<}
-use Rattle.std.specs.List.{AllByRecursion, flat_map}
+use Rattle.std.proofs.Common.{◌≡◌, ℕ, inl, inr, ◌<◌, Bool, true, false, ◌&&◌, List, [], ◌∷◌, ◌++◌, length, Option, Some, None, IfSome, option_map, refl, sym, ap, subst, arith, nat_le, nat_lt, ltb-true}
+use Rattle.std.specs.List.{AllByRecursion, flat_map, list_all}
+use Rattle.std.proofs.lemmas.Bool.{and_parts}
 use Rattle.std.proofs.lemmas.Bool.Decides.{nat_tests}
 use Rattle.net_types.specs.Moments.{IsMoment}
 use Rattle.machine.specs.Moment.{moment_of}
@@ -10,12 +11,13 @@ use Rattle.net_types.specs.declared.interface.Name.{Name}
 use Rattle.net_types.specs.NameText.{FitsName}
 use Rattle.v4_options.specs.OptionArea.{Instance}
 use Rattle.v4_options.specs.OptionValue.{value_of}
-use Rattle.lease_text.specs.declared.form.TheConstants.{KEPT_CODES}
+use Rattle.v4_options.specs.declared.table.TheConstants.{KEPT_CODES}
 use Rattle.lease_text.specs.declared.lease.TheConstants.{VALUE_LIMIT}
 use Rattle.lease_text.specs.declared.lease.Terms4.{Terms4}
 use Rattle.lease_text.specs.Bounds.{FitsValue, FitsValues, FitsLease, IsRising}
 use Rattle.lease_text.specs.Leases.{ValueContent, LeaseContent, lease_with, terms_of}
-use Rattle.lease_text.specs.ValueForms.{is_kept, is_well_formed}
+use Rattle.v4_options.specs.OptionTable.{is_kept}
+use Rattle.v4_options.specs.ValueForms.{is_well_formed}
 use Rattle.v4_client.specs.declared.states.Answer4.{Answer4}
 use Rattle.v4_client.specs.declared.states.Answer4.TheVariants as answer
 use Rattle.v4_client.specs.declared.states.Keep4.{Keep4}
@@ -103,10 +105,23 @@ pieces_fit value (code ∷ codes) kept =
     all_join FitsValue (kept_value code (value code)) (flat_map (λ code. kept_value code (value code)) codes)
     (piece_fits code (value code) kept.0) (pieces_fit value codes kept.1)
 
+kept_each : (codes : List ℕ) → list_all is_kept codes ≡ true → AllByRecursion (λ code. is_kept code ≡ true) codes
+kept_each [] e = tt
+kept_each (code ∷ codes) e = let both = and_parts (is_kept code) (list_all is_kept codes) e in (both.0, kept_each codes both.1)
+
 -- each code is above the one before it
+abbrev are_rising : (before : ℕ) → List ℕ → Bool
+are_rising before [] = true
+are_rising before (code ∷ codes) = nat_lt before code && are_rising code codes
+
 abbrev AreRising : (before : ℕ) → List ℕ → Type 0
 AreRising before [] = Unit {0}
 AreRising before (code ∷ codes) = (before < code) × AreRising code codes
+
+rising_each : (before : ℕ) (codes : List ℕ) → are_rising before codes ≡ true → AreRising before codes
+rising_each before [] e = tt
+rising_each before (code ∷ codes) e =
+    let both = and_parts (nat_lt before code) (are_rising code codes) e in (ltb-true before code both.0, rising_each code codes both.1)
 
 lower : (before code : ℕ) (values : List ValueContent) → before < code → IsRising code values → IsRising before values
 lower before code [] below rising = tt
@@ -130,9 +145,8 @@ pub values_fit : (refused : List ℕ) (instances : List Instance) → FitsValues
 values_fit refused instances =
     let value : ℕ → Option (List ℕ) = λ (code : ℕ). unless_refused refused code (value_of code instances) in
     record {
-      each = pieces_fit value KEPT_CODES (refl, (refl, (refl, (refl, (refl, (refl, (refl, (refl, (refl, tt)))))))));
-      rising = pieces_rise value 0 KEPT_CODES
-          (lit< tt, (lit< tt, (lit< tt, (lit< tt, (lit< tt, (lit< tt, (lit< tt, (lit< tt, (lit< tt, tt)))))))));
+      each = pieces_fit value KEPT_CODES (kept_each KEPT_CODES refl);
+      rising = pieces_rise value 0 KEPT_CODES (rising_each 0 KEPT_CODES refl);
     }
 
 values_taken : (answer : Answer4) (values fresh : List ValueContent) → FitsValues values → FitsValues fresh

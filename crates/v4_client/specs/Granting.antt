@@ -9,7 +9,7 @@ use Rattle.v4_options.specs.OptionValue.{value_of}
 use Rattle.lease_text.specs.declared.lease.Terms4.{Terms4}
 use Rattle.lease_text.specs.declared.lease.TheConstants.{INFINITE_LEASE}
 use Rattle.lease_text.specs.Leases.{ValueContent, first_byte}
-use Rattle.lease_text.specs.declared.form.TheConstants.{KEPT_CODES}
+use Rattle.v4_options.specs.declared.table.TheConstants.{KEPT_CODES}
 use Rattle.v4_client.specs.declared.states.Exchange4.{Exchange4}
 use Rattle.v4_message.specs.Messages.{address_at}
 use Rattle.v4_client.specs.Messages.{Arrival, can_be_kept, number_at, is_among}

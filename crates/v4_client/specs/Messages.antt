@@ -8,7 +8,7 @@ use Rattle.v4_options.specs.OptionValue.{value_of}
 use Rattle.v4_message.specs.declared.reading.Msg4.{Msg4}
 use Rattle.v4_message.specs.Messages.{Message4, message_of}
 use Rattle.lease_text.specs.declared.lease.TheConstants.{VALUE_LIMIT}
-use Rattle.lease_text.specs.ValueForms.{is_well_formed}
+use Rattle.v4_options.specs.ValueForms.{is_well_formed}
 use Rattle.v4_client.specs.declared.answers.Arrival4.{Arrival4}
 
 -- a message as it was heard: the hardware address that it came from, and the moment

@@ -13,11 +13,11 @@ use crate::answers::Arrival4;
 use crate::setup::Set4;
 use crate::states::Exchange4;
 use arrayvec::ArrayVec;
-use lease_text::{INFINITE_LEASE, KEPT_CODES, Origin, Terms4, VALUE_LIMIT, Value, is_well_formed};
+use lease_text::{INFINITE_LEASE, Origin, Terms4, VALUE_LIMIT, Value};
 use net_types::{Ip4, Net4, NoMemory};
 use option_index::{Found, OptionIndex};
 use std::alloc::Global;
-use v4_options::{OptionView, code, pieces_of, value};
+use v4_options::{KEPT_CODES, OptionView, code, is_well_formed, pieces_of, value};
 
 /// The renewal and rebinding times of a lease (T1 and T2), in seconds from its start.
 #[derive(Clone, Copy, PartialEq, Eq)]

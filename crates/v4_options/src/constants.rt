@@ -1,6 +1,8 @@
-//! The numbers that the definitions take from the code. The function does nothing: its contract holds each of them.
+//! The numbers that the definitions take from the code. The functions do nothing: their contracts hold each of them.
 
-ghost use Rattle.std.specs.Prelude.{◌≡◌};
+ghost use Rattle.std.specs.Prelude.{◌≡◌, [], ◌∷◌, filter, length, true};
+ghost use Rattle.std.specs.List.{list_all};
+ghost use Rattle.v4_options.specs.OptionTable.{is_kept, option_rows};
 
 use crate::code::{
     BROADCAST_ADDRESS, CLASSLESS_ROUTES, CLIENT_IDENTIFIER, DOMAIN_NAME, DOMAIN_NAME_SERVERS,
@@ -9,6 +11,7 @@ use crate::code::{
     REQUESTED_ADDRESS, ROUTERS, SERVER_IDENTIFIER, SUBNET_MASK, VENDOR_CLASS,
 };
 use crate::overload::{BOTH, FILE, SNAME};
+use crate::table::{KEPT_CODES, OPTIONS};
 
 /// Law: the codes of options are those of RFC 2132, RFC 3397 and RFC 3442, and the values of option 52 those of RFC
 /// 2132, section 9.3.
@@ -39,4 +42,13 @@ pub fn codes_are_those_assigned()
     ensures file { FILE ≡ 1 }
     ensures sname { SNAME ≡ 2 }
     ensures both { BOTH ≡ 3 }
+{}
+
+/// Law: the table of options, and the codes of the values that a lease keeps, are these; the codes are those of the rows
+/// that say so.
+pub fn options_are_these()
+    ensures options { OPTIONS ≡ option_rows }
+    ensures codes { KEPT_CODES ≡ 3 ∷ 6 ∷ 12 ∷ 15 ∷ 26 ∷ 28 ∷ 42 ∷ 119 ∷ 121 ∷ [] }
+    ensures kept { list_all is_kept KEPT_CODES ≡ true }
+    ensures all { length (filter (λ row. row.kept) OPTIONS) ≡ length KEPT_CODES }
 {}

@@ -34,7 +34,8 @@ go-requires c =
     let at : IsMoment c.turn.result.at =
     early c.turn.result c.args.at c.clamp_moment.result c.args.salt c.args.c.now c.clamp_moment.ensures c.turn.ensures in
     subst (λ (s : State4). IsSoundStep (kept_terms c.bring.new.self) s c.heard_row-step.result) same
-    (rw c.heard_row-step.ensures (heard_sound (kept_terms c.bring.new.self) c.turn.result c.answer_to-answer.result c.c.inside.state at c.c.invariant.state good))
+    (rw c.heard_row-step.ensures
+    (heard_sound (kept_terms c.bring.new.self) c.turn.result c.answer_to-answer.result c.c.inside.state at c.c.invariant.state good))
 
 -- the step takes no room
 gone : (P Q : Type 0) (r : Result Out4 NoMemory) → (P → ⊥) → OnErr r P → OnErr r Q
