@@ -12,7 +12,7 @@ use Rattle.v4_client.specs.declared.states.Tell.{Tell}
 use Rattle.v4_client.specs.declared.states.Tell.TheVariants.{Server}
 use Rattle.v6_client.specs.declared.states.Carrier6.TheVariants as carrier6
 use Rattle.v6_client.specs.Runs.{Turned6, carrier_turned, rebind_turned}
-use Rattle.v6_client.proofs.StayingRuns.{settings_stay}
+use Rattle.v6_client.proofs.SettingsStay.{settings_stay}
 use Rattle.world.specs.declared.wakes.Event.{Event}
 use Rattle.world.specs.declared.wakes.Event.TheVariants.{Frame, Carrier, Duplicate, Release, Rebind, Stop, Quiet, End}
 use Rattle.settings.specs.declared.interfaces.Managed.{Managed}

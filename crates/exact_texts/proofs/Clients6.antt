@@ -32,8 +32,9 @@ use Rattle.v6_client.specs.declared.states.Keep6.TheVariants.{Stays, Clears, Tak
 use Rattle.v6_client.specs.declared.states.Parting6.{Parting6}
 use Rattle.v6_client.specs.declared.states.Step6.{Step6}
 use Rattle.v6_client.specs.declared.states.Tell6.{Tell6}
-use Rattle.v6_client.proofs.StayingRuns.{settings_stay, sound_stays}
-use Rattle.v6_client.proofs.TimedReplies.{grants_fit}
+use Rattle.v6_client.proofs.SettingsStay.{settings_stay}
+use Rattle.v6_client_laws.proofs.StayingRuns.{sound_stays}
+use Rattle.v6_client_laws.proofs.TimedReplies.{grants_fit}
 use Rattle.exact_texts.proofs.Heard6.{HasServer}
 use Rattle.exact_texts.proofs.TypedLeases6.{IsNumbered, TypedLease6, fresh_typed, left_typed, prune_typed, thin_typed}
 

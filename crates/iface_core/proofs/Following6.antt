@@ -17,7 +17,7 @@ use Rattle.v6_client.specs.Moves.{IsStep6, OutContent, old_of, out_content}
 use Rattle.v6_client.specs.Rests.{Ticks}
 use Rattle.v6_client.specs.RunLaws.{turned}
 use Rattle.v6_client.specs.Runs.{Turned6, carrier_turned, contested_turned, hears_turned, rebind_turned, release_turned, tick_turned}
-use Rattle.v6_client.proofs.StayingRuns.{settings_stay}
+use Rattle.v6_client.proofs.SettingsStay.{settings_stay}
 use Rattle.v6_client.proofs.CallRuns.{carrier_runs, contested_runs, hears_runs, rebind_runs, release_runs, tick_runs}
 use Rattle.settings.specs.Fitting.{FitsManaged}
 use Rattle.client_model.specs.declared.interfaces.Iface.{Iface}

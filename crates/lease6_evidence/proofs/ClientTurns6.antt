@@ -12,8 +12,9 @@ use Rattle.v6_client.specs.Clients.{ClientContent, holds}
 use Rattle.v6_client.specs.Runs.{Turned6, carrier_turned, contested_turned, hears_turned, tick_turned}
 use Rattle.v6_client.specs.Saying.{lease_server, plea_server}
 use Rattle.v6_client.specs.Sound.{IsSound}
-use Rattle.v6_client.proofs.StayingRuns.{settings_stay, sound_stays}
-use Rattle.v6_client.proofs.TimedReplies.{grants_fit}
+use Rattle.v6_client.proofs.SettingsStay.{settings_stay}
+use Rattle.v6_client_laws.proofs.StayingRuns.{sound_stays}
+use Rattle.v6_client_laws.proofs.TimedReplies.{grants_fit}
 use Rattle.lease_evidence.specs.ClientModel.ClientSettings6.{settings6_of}
 use Rattle.lease_evidence.specs.EvidenceWords.Entries.{Entry}
 use Rattle.lease_evidence.specs.EvidenceWords.Inputs.{Site}

@@ -44,8 +44,8 @@ use Rattle.v6_client.specs.Settings.{SettingsContent}
 use Rattle.v6_client.specs.Sound.{IsSound}
 use Rattle.v6_client.specs.Steps.{expires, is_last, keep_by, loses, tells_parting}
 use Rattle.v6_client.specs.Ticks.{restarting_tick, tick_row}
-use Rattle.v6_client.proofs.Lapsing.{start_row}
-use Rattle.v6_client.proofs.Lapsing as lapsing
+use Rattle.v6_client_laws.proofs.Lapsing.{start_row}
+use Rattle.v6_client_laws.proofs.Lapsing as lapsing
 use Rattle.v6_client.proofs.TakenFits.{kind_is}
 use Rattle.lease_evidence.specs.ClientModel.ClientSettings6.{settings6_of}
 use Rattle.lease_evidence.specs.EvidenceWords.Entries.{Entry}

@@ -4,7 +4,7 @@ use Rattle.lease6_text.specs.Leases.{Lease6Content}
 use Rattle.v6_client.specs.declared.states.State6.TheVariants.{Bound}
 use Rattle.v6_client.specs.Clients.{ClientContent, held_of}
 use Rattle.v6_client.specs.Settings.{SettingsContent}
-use Rattle.v6_client.proofs.StayingRuns.{settings_stay}
+use Rattle.v6_client.proofs.SettingsStay.{settings_stay}
 use Rattle.lease6_progress.specs.ClientTurns.{ClientTurn, Input6, Quiet, Hears, IsUsed, Rebinds, Drops, Releases, Start, acts_in, client_run}
 use Rattle.lease6_progress.specs.GoingWell.{Answered, EachQuestion, Fair, Prompt}
 use Rattle.lease6_progress.specs.Questions.{question_in}

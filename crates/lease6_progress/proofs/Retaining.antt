@@ -9,7 +9,7 @@ use Rattle.v6_client.specs.Calls.{due_of}
 use Rattle.v6_client.specs.Clients.{ClientContent, PleaContent, holds}
 use Rattle.v6_client.specs.Runs.{Turned6, tick_turned}
 use Rattle.v6_client.specs.Settings.{SettingsContent}
-use Rattle.v6_client.proofs.StayingRuns.{settings_stay}
+use Rattle.v6_client.proofs.SettingsStay.{settings_stay}
 use Rattle.lease6_progress.specs.ClientTurns.{ClientTurn, Input6, Quiet, Hears, IsUsed, Rebinds, Drops, Releases, Start, acts_in, client_run, now_in, takes}
 use Rattle.lease6_progress.specs.GoingWell.{Answered, EachQuestion, RebindsAlone, CarrierStays, Fair, IsFair, IsPrompt, NotAfter, NothingIsDenied, Prompt, Serves}
 use Rattle.lease6_progress.specs.Questions.{Question, asked_by, left_by, question_in}

@@ -16,7 +16,7 @@ use Rattle.v6_frames.specs.Spelled.{Sent6}
 use Rattle.v6_client.specs.Clients.{ClientContent}
 use Rattle.v6_client.specs.Runs.{rebind_turned, tick_turned}
 use Rattle.v6_client.specs.Saying.{SpokenContent}
-use Rattle.v6_client.proofs.StayingRuns.{settings_stay}
+use Rattle.v6_client.proofs.SettingsStay.{settings_stay}
 use Rattle.ipv4ll.specs.declared.link_local.LinkLocal.{LinkLocal}
 use Rattle.ipv4ll.specs.Table.{ll_hears, ll_tick}
 use Rattle.world.specs.declared.wakes.Event.{Event}

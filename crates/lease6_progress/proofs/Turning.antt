@@ -15,7 +15,7 @@ use Rattle.v6_client.specs.Saying.{plea_server}
 use Rattle.v6_client.specs.Settings.{SettingsContent}
 use Rattle.v6_client.specs.Steps.{restarts, to_waiting}
 use Rattle.v6_client.specs.Times.{first_delay}
-use Rattle.v6_client.proofs.StayingRuns.{settings_stay}
+use Rattle.v6_client.proofs.SettingsStay.{settings_stay}
 use Rattle.lease6_progress.specs.Acquiring.{Acquires, AcquiresAtOnce, BeginsAnew, HeldBy, IsReply, RepliesAlone, longest_choice, longest_delay}
 use Rattle.lease6_progress.specs.ClientTurns.{ClientTurn, Input6, Quiet, Hears, IsUsed, Rebinds, Drops, Releases, Start, acts_in, begun, client_run, now_in, takes}
 use Rattle.lease6_progress.specs.GoingWell.{CarrierStays, Fair, EachQuestion, IsFair, IsPrompt, NotAfter, NothingIsDenied, Prompt, Serves}

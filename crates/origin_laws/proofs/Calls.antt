@@ -33,8 +33,8 @@ use Rattle.v6_client.specs.Calls.{Hears, IsAnswered}
 use Rattle.v6_client.specs.Reading.{serves}
 use Rattle.v6_client.specs.Taking.{ias_granted}
 use Rattle.v6_client.specs.Ticks.{tick_row}
-use Rattle.v6_client.proofs.Granting.{keeps_granted}
-use Rattle.v6_client.proofs.KeptOrigins.{grants_origin}
+use Rattle.v6_client_laws.proofs.Granting.{keeps_granted}
+use Rattle.v6_client_laws.proofs.KeptOrigins.{grants_origin}
 use Rattle.lease6_evidence.proofs.Turns6.{Call6, Begins, Contests, Drops, Hears as Heard, Ignores, Rebinds, Releases, Rests, run6}
 use Rattle.origin_laws.specs.Granted6.{WasKept}
 use Rattle.origin_laws.proofs.Left.{Less, left_self, less_by, less_self, pruned_left, thinned_left}

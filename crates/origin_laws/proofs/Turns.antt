@@ -22,7 +22,7 @@ use Rattle.v6_client.specs.Ticks.{tick_row}
 use Rattle.v6_client.specs.Laws.{IsGranting}
 use Rattle.v6_client.specs.Runs.{Turned6, hears_turned, release_turned, tick_turned}
 use Rattle.v6_client.specs.Settings.{SettingsContent}
-use Rattle.v6_client.proofs.StayingRuns.{settings_stay}
+use Rattle.v6_client.proofs.SettingsStay.{settings_stay}
 use Rattle.settings.specs.declared.interfaces.Managed.{Managed}
 use Rattle.script_model.specs.IfaceSets.{is_in, is_up}
 use Rattle.client_model.specs.declared.interfaces.Iface.{Iface}

@@ -35,10 +35,7 @@ pub use client::{
 pub use constants::times_are_those_of_rfc_8415;
 pub use exchange::Exchange6;
 pub use items::is_same_kind;
-pub use laws::{
-    calls_run6, holds_nothing_over6, holds_own_ias6, ignores_foreign6, keeps_granted6,
-    keeps_origins6, quiet_steps_keep6, stays_sound6,
-};
+pub use laws::{calls_run6, keeps_settings6, quiet_steps_keep6};
 pub use leases::Plea6;
 pub use reading::{ia_for, is_for, is_readable, is_unbound, read_item, saids_of, serves};
 pub use renewing::Spans6;

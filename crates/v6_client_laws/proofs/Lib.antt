@@ -6,3 +6,9 @@ pub mod Leasts
 pub mod DueProofs
 pub mod TakenProofs
 pub mod TimeProofs
+pub mod Granting
+pub mod Lapsing
+pub mod OwnGrants
+pub mod StayingRuns
+pub mod TimedReplies
+pub mod KeptOrigins

@@ -1,5 +1,5 @@
-use Rattle.v6_client.proofs.KeptOrigins.{grants_origin, origins_stay}
-use Rattle.v6_client.proofs.laws.keeps_origins6.Goals as goal
+use Rattle.v6_client_laws.proofs.KeptOrigins.{grants_origin, origins_stay}
+use Rattle.v6_client_laws.proofs.laws.keeps_origins6.Goals as goal
 
 pub returns-clause-grants : goal.returns-clause-grants
 returns-clause-grants c = grants_origin

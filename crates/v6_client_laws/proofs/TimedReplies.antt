@@ -34,7 +34,7 @@ use Rattle.v6_client.specs.Taking.{IaTaking, Meeting, ia_spans, ias_granted, ite
 use Rattle.v6_client.specs.Times.{earlier}
 use Rattle.v6_client.proofs.LeaseFits.{ias_fit, t1_fits, t2_fits, values_fit}
 use Rattle.v6_client.proofs.SaidFits.{cons_all, saids_fit, take_all}
-use Rattle.v6_client.proofs.StayingRuns.{learnt_sound}
+use Rattle.v6_client_laws.proofs.StayingRuns.{learnt_sound}
 
 -- ---- bytes
 

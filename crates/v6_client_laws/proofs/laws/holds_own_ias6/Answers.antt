@@ -1,6 +1,6 @@
-use Rattle.v6_client.proofs.OwnGrants.{carriers_own, duplicates_own, grants_own, held_own, made_own, messages_own, rebinds_own, releases_own, ticks_own}
-use Rattle.v6_client.proofs.StayingRuns.{own_ias_stay}
-use Rattle.v6_client.proofs.laws.holds_own_ias6.Goals as goal
+use Rattle.v6_client_laws.proofs.OwnGrants.{carriers_own, duplicates_own, grants_own, held_own, made_own, messages_own, rebinds_own, releases_own, ticks_own}
+use Rattle.v6_client_laws.proofs.StayingRuns.{own_ias_stay}
+use Rattle.v6_client_laws.proofs.laws.holds_own_ias6.Goals as goal
 
 pub returns-clause-made : goal.returns-clause-made
 returns-clause-made c = made_own

@@ -35,7 +35,7 @@ use Rattle.v6_client.specs.Moves.{IsStep6, OutContent, given_up, kept_after, kep
 use Rattle.v6_client.specs.OwnLeases.{AreAsked, CarriersOwn, DuplicatesOwn, GrantsOwn, HeldOwn, MadeOwn, MessagesOwn, OwnIas, RebindsOwn, ReleasesOwn, TicksOwn, is_asked}
 use Rattle.v6_client.specs.Taking.{Meeting, ias_granted, taken_by}
 use Rattle.v6_client.specs.Ticks.{tick_row}
-use Rattle.v6_client.proofs.Lapsing.{start_row}
+use Rattle.v6_client_laws.proofs.Lapsing.{start_row}
 use Rattle.v6_client.proofs.RowFacts.{begin_facts, duplicate_facts, heard_facts, rebind_facts, release_facts}
 
 -- ---- IAs

@@ -1,5 +1,5 @@
-use Rattle.v6_client.proofs.Granting.{begins_bring_nothing, brings_nothing, keeps_granted, ticks_bring_nothing}
-use Rattle.v6_client.proofs.laws.keeps_granted6.Goals as goal
+use Rattle.v6_client_laws.proofs.Granting.{begins_bring_nothing, brings_nothing, keeps_granted, ticks_bring_nothing}
+use Rattle.v6_client_laws.proofs.laws.keeps_granted6.Goals as goal
 
 pub returns-clause-granted : goal.returns-clause-granted
 returns-clause-granted c = keeps_granted

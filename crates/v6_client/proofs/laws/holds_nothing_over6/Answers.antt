@@ -1,5 +1,0 @@
-use Rattle.v6_client.proofs.Lapsing.{holds_nothing_over}
-use Rattle.v6_client.proofs.laws.holds_nothing_over6.Goals as goal
-
-pub returns : goal.returns
-returns c = holds_nothing_over

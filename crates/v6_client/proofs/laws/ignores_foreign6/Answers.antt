@@ -1,5 +1,0 @@
-use Rattle.v6_client.proofs.Granting.{ignores_foreign}
-use Rattle.v6_client.proofs.laws.ignores_foreign6.Goals as goal
-
-pub returns : goal.returns
-returns c = ignores_foreign
