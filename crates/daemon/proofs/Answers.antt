@@ -1,26 +1,27 @@
 -- What one device answered at one question.
 use Rattle.std.proofs.Common.{ℕ, ◌≡◌, inl, inr, Bool, true, false, List, [], ◌∷◌, ◌++◌, Option, Some, None, Result, Ok, Err, refl, sym, ap, subst, ◌∙◌}
-use Rattle.std.specs.Prelude.{not, cond, option_map}
+use Rattle.std.specs.Prelude.{not, cond, option_map, IfOk}
 use Rattle.world.specs.declared.faults.DeviceAnswer.TheVariants as Answer
 use Rattle.world.specs.declared.faults.DeviceAnswer.{DeviceAnswer}
-use Rattle.world.specs.Causes.{Foretold}
+use Rattle.world.specs.Causes.{Foretold, FailsAsTold, done_of}
 use Rattle.world.specs.StoreFails.{StoreFails, StoreForetold}
 use Rattle.world.specs.declared.rows.HostRow.{HostRow}
 use Rattle.world.specs.RowOrder.{in_row_order}
 use Rattle.world.specs.LinkCalls.{LinkTold, Offered, offered, Offers, send_number}
 use Rattle.world.specs.HostCalls.{HostCall, HostTold, Listed, host_answered, host_number, Shows, ListsRows, ListsNone, Changes}
-use Rattle.world.specs.FileLists.{StoreFile, asides, file_at, put_file, rename_file, drop_file}
-use Rattle.world.specs.SoundStores.{files_by, was_done}
-use Rattle.file_choices.specs.StoreWalks.{LeavesAsTold, IsDoneAsTold, IsTrueOf, Answered}
+use Rattle.world.specs.FileLists.{StoreFile, asides, file_at, rename_file}
 use Rattle.world.specs.FileNames.{aside_of}
-use Rattle.world.specs.StoreCalls.{StoreCall, StoreTold, Reading, Found, Missing, Unread, ListedAsides, ReadFile, WroteAside, SyncedAside, RenamedAside, RemovedFile, SettledFiles, reading_of, Appended, ListsAsides, ReadsFile, store_answered, store_number, ChangesFiles, RenameForetold}
+use Rattle.world.specs.SoundStores.{was_done}
+use Rattle.file_choices.specs.StoreWalks.{LeavesAsTold, IsDoneAsTold, IsTrueOf, Answered}
+use Rattle.world.specs.StoreCalls.{StoreCall, StoreTold, Reading, Found, Missing, Unread, ListedAsides, ReadFile, RenamedAside, reading_of, Appended, ListsAsides, ReadsFile, store_answered, store_number, files_by, ChangesFiles, RenamesAside, RenameForetold}
 use Rattle.net_types.specs.declared.fault.Failed.{Failed}
 use Rattle.world.specs.declared.hooking.Poll.{Poll}
 use Rattle.world.specs.HookCalls.{HooksTold, HookCall, Job, Started, Polled, Abandoned, StartsJob, AnswersPoll, Abandons, start_number, next_answer, polled, hooks_answered, said_by_poll}
 use Rattle.host_model.specs.declared.changes.HostChange.{HostChange}
 use Rattle.host_model.specs.HostTurn.{change_call, applied}
 use Rattle.device_calls.specs.Telling.{Adds}
-use Rattle.daemon.specs.Answered.{OfferedBy, ListedBy, ChangedBy, AsidesBy, ReadBy, WrittenBy, SyncedBy, RenamedBy, RemovedBy, SettledBy, StartedBy, PolledBy, AbandonedBy}
+use Rattle.device_calls.specs.Worlds.{Told, fails_store, fails_renaming, store_changed}
+use Rattle.daemon.specs.Answered.{By, OfferedBy, ListedBy, ChangedBy, AsidesBy, ReadBy, RenamedBy, StartedBy, PolledBy, AbandonedBy}
 
 abbrev done_call : Result (Unit {0}) DeviceAnswer
 done_call = Ok tt
@@ -38,19 +39,19 @@ offer_adds : (iface : ℕ) (frame : List ℕ) (taken : Bool) (told : LinkTold) (
 offer_adds iface frame taken told new same =
     subst (λ (n : Option LinkTold). Adds (Some told.calls) (option_map (λ t. t.calls) n) (Offered iface frame taken ∷ [])) (sym same) refl
 
-pub offered_by : (iface : ℕ) (frame : List ℕ) (failing : Option (List ℕ)) (old new : Option LinkTold) → Offers iface frame old new done_call
-    → Foretold failing (send_number old) done_call → OfferedBy iface frame true failing old new
-offered_by iface frame failing None new offers foretold = record { adds = tt; foretold_is = tt }
-offered_by iface frame None (Some told) new offers foretold = record { adds = offer_adds iface frame true told new offers; foretold_is = tt }
-offered_by iface frame (Some failing) (Some told) new offers foretold =
+pub offered_by : (iface : ℕ) (frame : List ℕ) (failing : Option (List ℕ)) (old new : Option LinkTold) (answer : Result (Unit {0}) DeviceAnswer)
+    → Offers iface frame old new answer → Foretold failing (send_number old) answer
+    → IfOk (done_of answer) (λ taken. OfferedBy iface frame taken failing old new)
+offered_by iface frame failing None new (Ok x) offers foretold = record { adds = tt; foretold_is = tt }
+offered_by iface frame failing None new (Err Answer.Failed) offers foretold = record { adds = tt; foretold_is = tt }
+offered_by iface frame None (Some told) new (Ok x) offers foretold = record { adds = offer_adds iface frame true told new offers; foretold_is = tt }
+offered_by iface frame None (Some told) new (Err Answer.Failed) offers foretold =
+    record { adds = offer_adds iface frame false told new offers; foretold_is = tt }
+offered_by iface frame (Some failing) (Some told) new (Ok x) offers foretold =
     record { adds = offer_adds iface frame true told new offers; foretold_is = (ap not (sym foretold), offers) }
-
-pub untaken_by : (iface : ℕ) (frame : List ℕ) (failing : Option (List ℕ)) (old new : Option LinkTold) → Offers iface frame old new failed_call
-    → Foretold failing (send_number old) failed_call → OfferedBy iface frame false failing old new
-untaken_by iface frame failing None new offers foretold = record { adds = tt; foretold_is = tt }
-untaken_by iface frame None (Some told) new offers foretold = record { adds = offer_adds iface frame false told new offers; foretold_is = tt }
-untaken_by iface frame (Some failing) (Some told) new offers foretold =
+offered_by iface frame (Some failing) (Some told) new (Err Answer.Failed) offers foretold =
     record { adds = offer_adds iface frame false told new offers; foretold_is = (ap not (sym foretold), offers) }
+offered_by iface frame failing old new (Err Answer.NoMemory) offers foretold = tt
 
 pub unoffered : (iface : ℕ) (frame : List ℕ) (old new : Option LinkTold) → Offers {T = Unit {0}} iface frame old new no_memory → new ≡ old
 unoffered iface frame None new offers = offers
@@ -98,22 +99,21 @@ pub unlisted : (old new : Option HostTold) → ListsNone old new Answer.NoMemory
 unlisted None new none = none
 unlisted (Some told) new none = none
 
-pub done_by : (change : HostChange) (failing : Option (List ℕ)) (old new : Option HostTold)
-    → Changes failing (applied change) (change_call change) old new done_call → Foretold failing (host_number old) done_call
-    → ChangedBy change true failing old new
-done_by change failing None new changes foretold = record { adds = tt; foretold_is = tt }
-done_by change None (Some told) new changes foretold = record { adds = host_adds (change_call change true) _ told new changes; foretold_is = tt }
-done_by change (Some failing) (Some told) new changes foretold =
+pub changed_by : (change : HostChange) (failing : Option (List ℕ)) (old new : Option HostTold) (answer : Result (Unit {0}) DeviceAnswer)
+    → Changes failing (applied change) (change_call change) old new answer → Foretold failing (host_number old) answer
+    → IfOk (done_of answer) (λ done. ChangedBy change done failing old new)
+changed_by change failing None new (Ok x) changes foretold = record { adds = tt; foretold_is = tt }
+changed_by change failing None new (Err Answer.Failed) changes foretold = record { adds = tt; foretold_is = tt }
+changed_by change None (Some told) new (Ok x) changes foretold = record { adds = host_adds (change_call change true) _ told new changes; foretold_is = tt }
+changed_by change None (Some told) new (Err Answer.Failed) (inl changes) foretold =
+    record { adds = host_adds (change_call change false) _ told new changes; foretold_is = tt }
+changed_by change None (Some told) new (Err Answer.Failed) (inr changes) foretold =
+    record { adds = host_adds (change_call change false) _ told new changes; foretold_is = tt }
+changed_by change (Some failing) (Some told) new (Ok x) changes foretold =
     record { adds = host_adds (change_call change true) _ told new changes; foretold_is = (ap not (sym foretold), changes) }
-
-pub undone_by : (change : HostChange) (failing : Option (List ℕ)) (old new : Option HostTold)
-    → Changes failing (applied change) (change_call change) old new failed_call → Foretold failing (host_number old) failed_call
-    → ChangedBy change false failing old new
-undone_by change failing None new changes foretold = record { adds = tt; foretold_is = tt }
-undone_by change None (Some told) new (inl changes) foretold = record { adds = host_adds (change_call change false) _ told new changes; foretold_is = tt }
-undone_by change None (Some told) new (inr changes) foretold = record { adds = host_adds (change_call change false) _ told new changes; foretold_is = tt }
-undone_by change (Some failing) (Some told) new changes foretold =
+changed_by change (Some failing) (Some told) new (Err Answer.Failed) changes foretold =
     record { adds = host_adds (change_call change false) _ told new changes; foretold_is = (ap not (sym foretold), changes) }
+changed_by change failing old new (Err Answer.NoMemory) changes foretold = tt
 
 pub unchanged : (change : HostChange) (failing : Option (List ℕ)) (old new : Option HostTold)
     → Changes {T = Unit {0}} failing (applied change) (change_call change) old new no_memory → new ≡ old
@@ -225,95 +225,49 @@ pub not_read : (name : List ℕ) (old new : Option StoreTold) (before after : Li
 not_read name None new before after reads = reads
 not_read name (Some told) new before after reads = reads
 
-pub written_by : (name bytes : List ℕ) (failing : Option StoreFails) (old new : Option StoreTold)
-    → ChangesFiles failing (put_file (record { name = aside_of name; bytes = bytes })) (WroteAside name bytes) old new done_call
-    → StoreForetold failing (store_number old) done_call → WrittenBy name bytes true failing old new
-written_by name bytes failing None new changes foretold = record { adds = tt; foretold_is = tt }
-written_by name bytes None (Some told) new changes foretold = record { adds = store_adds (WroteAside name bytes true) _ told new changes; foretold_is = tt }
-written_by name bytes (Some failing) (Some told) new changes foretold =
-    record { adds = store_adds (WroteAside name bytes true) _ told new changes; foretold_is = (ap not (sym foretold), changes) }
+-- a call that changes files, of a store that tells what it holds
+store_changed_so : (fails : Told StoreTold StoreFails → Bool) (change : List StoreFile → List StoreFile) (call : Bool → StoreCall)
+    (failing : Option StoreFails) (told : StoreTold) (new : Option StoreTold) (answer : Result (Unit {0}) DeviceAnswer)
+    → ((files : List StoreFile) → files_by (call true) files ≡ change files) → ChangesFiles failing call (Some told) new answer
+    → FailsAsTold (option_map (λ f. fails (record { told = told; failing = f })) failing) answer
+    → IfOk (done_of answer)
+    (λ done. By (λ (t : StoreTold). t.calls) (call done) done (λ store. not (fails store)) (store_changed change call done) failing (Some told) new)
+store_changed_so fails change call None told new (Ok x) by changes foretold = record { adds = store_adds (call true) _ told new changes; foretold_is = tt }
+store_changed_so fails change call None told new (Err Answer.Failed) by changes foretold =
+    record { adds = store_adds (call false) _ told new changes.2; foretold_is = tt }
+store_changed_so fails change call (Some failing) told new (Ok x) by changes foretold = record {
+  adds = store_adds (call true) _ told new changes;
+  foretold_is = (ap not (sym foretold), changes ∙ ap (λ (files : List StoreFile). Some (store_answered (call true) files told)) (by told.files));
+}
+store_changed_so fails change call (Some failing) told new (Err Answer.Failed) by changes foretold =
+    record { adds = store_adds (call false) _ told new changes; foretold_is = (ap not (sym foretold), changes) }
+store_changed_so fails change call failing told new (Err Answer.NoMemory) by changes foretold = tt
 
-pub not_written_by : (name bytes : List ℕ) (failing : Option StoreFails) (old new : Option StoreTold)
-    → ChangesFiles failing (put_file (record { name = aside_of name; bytes = bytes })) (WroteAside name bytes) old new failed_call
-    → StoreForetold failing (store_number old) failed_call → WrittenBy name bytes false failing old new
-not_written_by name bytes failing None new changes foretold = record { adds = tt; foretold_is = tt }
-not_written_by name bytes None (Some told) new (inl changes) foretold =
-    record { adds = store_adds (WroteAside name bytes false) _ told new changes; foretold_is = tt }
-not_written_by name bytes None (Some told) new (inr changes) foretold =
-    record { adds = store_adds (WroteAside name bytes false) _ told new changes; foretold_is = tt }
-not_written_by name bytes (Some failing) (Some told) new changes foretold =
-    record { adds = store_adds (WroteAside name bytes false) _ told new changes; foretold_is = (ap not (sym foretold), changes) }
+pub store_changed_by : (change : List StoreFile → List StoreFile) (call : Bool → StoreCall) (failing : Option StoreFails) (old new : Option StoreTold)
+    (answer : Result (Unit {0}) DeviceAnswer) → ((files : List StoreFile) → files_by (call true) files ≡ change files)
+    → ChangesFiles failing call old new answer → StoreForetold failing (store_number old) answer
+    → IfOk (done_of answer)
+    (λ done. By (λ (t : StoreTold). t.calls) (call done) done (λ store. not (fails_store store)) (store_changed change call done) failing old new)
+store_changed_by change call failing None new (Ok x) by changes foretold = record { adds = tt; foretold_is = tt }
+store_changed_by change call failing None new (Err Answer.Failed) by changes foretold = record { adds = tt; foretold_is = tt }
+store_changed_by change call failing None new (Err Answer.NoMemory) by changes foretold = tt
+store_changed_by change call failing (Some told) new answer by changes foretold =
+    store_changed_so fails_store change call failing told new answer by changes foretold
 
-pub synced_by : (name : List ℕ) (failing : Option StoreFails) (old new : Option StoreTold)
-    → ChangesFiles failing (λ files. files) (SyncedAside name) old new done_call → StoreForetold failing (store_number old) done_call
-    → SyncedBy name true failing old new
-synced_by name failing None new changes foretold = record { adds = tt; foretold_is = tt }
-synced_by name None (Some told) new changes foretold = record { adds = store_adds (SyncedAside name true) _ told new changes; foretold_is = tt }
-synced_by name (Some failing) (Some told) new changes foretold =
-    record { adds = store_adds (SyncedAside name true) _ told new changes; foretold_is = (ap not (sym foretold), changes) }
+pub renamed_by : (name : List ℕ) (failing : Option StoreFails) (old new : Option StoreTold) (answer : Result (Unit {0}) DeviceAnswer)
+    → RenamesAside failing name old new answer → RenameForetold failing name old answer
+    → IfOk (done_of answer) (λ done. RenamedBy name done failing old new)
+renamed_by name failing None new (Ok x) changes foretold = record { adds = tt; foretold_is = tt }
+renamed_by name failing None new (Err Answer.Failed) changes foretold = record { adds = tt; foretold_is = tt }
+renamed_by name failing None new (Err Answer.NoMemory) changes foretold = tt
+renamed_by name failing (Some told) new answer changes foretold =
+    store_changed_so (fails_renaming name) (λ files. rename_file name (file_at (aside_of name) files) files) (RenamedAside name) failing told new answer
+    (λ files. refl) changes foretold
 
-pub not_synced_by : (name : List ℕ) (failing : Option StoreFails) (old new : Option StoreTold)
-    → ChangesFiles failing (λ files. files) (SyncedAside name) old new failed_call → StoreForetold failing (store_number old) failed_call
-    → SyncedBy name false failing old new
-not_synced_by name failing None new changes foretold = record { adds = tt; foretold_is = tt }
-not_synced_by name None (Some told) new (inl changes) foretold = record { adds = store_adds (SyncedAside name false) _ told new changes; foretold_is = tt }
-not_synced_by name None (Some told) new (inr changes) foretold = record { adds = store_adds (SyncedAside name false) _ told new changes; foretold_is = tt }
-not_synced_by name (Some failing) (Some told) new changes foretold =
-    record { adds = store_adds (SyncedAside name false) _ told new changes; foretold_is = (ap not (sym foretold), changes) }
-
-pub renamed_by : (name : List ℕ) (failing : Option StoreFails) (old new : Option StoreTold)
-    → ChangesFiles failing (λ files. rename_file name (file_at (aside_of name) files) files) (RenamedAside name) old new done_call
-    → RenameForetold failing name old done_call → RenamedBy name true failing old new
-renamed_by name failing None new changes foretold = record { adds = tt; foretold_is = tt }
-renamed_by name None (Some told) new changes foretold = record { adds = store_adds (RenamedAside name true) _ told new changes; foretold_is = tt }
-renamed_by name (Some failing) (Some told) new changes foretold =
-    record { adds = store_adds (RenamedAside name true) _ told new changes; foretold_is = (ap not (sym foretold), changes) }
-
-pub not_renamed_by : (name : List ℕ) (failing : Option StoreFails) (old new : Option StoreTold)
-    → ChangesFiles failing (λ files. rename_file name (file_at (aside_of name) files) files) (RenamedAside name) old new failed_call
-    → RenameForetold failing name old failed_call → RenamedBy name false failing old new
-not_renamed_by name failing None new changes foretold = record { adds = tt; foretold_is = tt }
-not_renamed_by name None (Some told) new (inl changes) foretold = record { adds = store_adds (RenamedAside name false) _ told new changes; foretold_is = tt }
-not_renamed_by name None (Some told) new (inr changes) foretold = record { adds = store_adds (RenamedAside name false) _ told new changes; foretold_is = tt }
-not_renamed_by name (Some failing) (Some told) new changes foretold =
-    record { adds = store_adds (RenamedAside name false) _ told new changes; foretold_is = (ap not (sym foretold), changes) }
-
-pub removed_by : (name : List ℕ) (failing : Option StoreFails) (old new : Option StoreTold)
-    → ChangesFiles failing (drop_file name) (RemovedFile name) old new done_call → StoreForetold failing (store_number old) done_call
-    → RemovedBy name true failing old new
-removed_by name failing None new changes foretold = record { adds = tt; foretold_is = tt }
-removed_by name None (Some told) new changes foretold = record { adds = store_adds (RemovedFile name true) _ told new changes; foretold_is = tt }
-removed_by name (Some failing) (Some told) new changes foretold =
-    record { adds = store_adds (RemovedFile name true) _ told new changes; foretold_is = (ap not (sym foretold), changes) }
-
-pub unremoved_by : (name : List ℕ) (failing : Option StoreFails) (old new : Option StoreTold)
-    → ChangesFiles failing (drop_file name) (RemovedFile name) old new failed_call → StoreForetold failing (store_number old) failed_call
-    → RemovedBy name false failing old new
-unremoved_by name failing None new changes foretold = record { adds = tt; foretold_is = tt }
-unremoved_by name None (Some told) new (inl changes) foretold = record { adds = store_adds (RemovedFile name false) _ told new changes; foretold_is = tt }
-unremoved_by name None (Some told) new (inr changes) foretold = record { adds = store_adds (RemovedFile name false) _ told new changes; foretold_is = tt }
-unremoved_by name (Some failing) (Some told) new changes foretold =
-    record { adds = store_adds (RemovedFile name false) _ told new changes; foretold_is = (ap not (sym foretold), changes) }
-
-pub settled_by : (failing : Option StoreFails) (old new : Option StoreTold) → ChangesFiles failing (λ files. files) SettledFiles old new done_call
-    → StoreForetold failing (store_number old) done_call → SettledBy true failing old new
-settled_by failing None new changes foretold = record { adds = tt; foretold_is = tt }
-settled_by None (Some told) new changes foretold = record { adds = store_adds (SettledFiles true) _ told new changes; foretold_is = tt }
-settled_by (Some failing) (Some told) new changes foretold =
-    record { adds = store_adds (SettledFiles true) _ told new changes; foretold_is = (ap not (sym foretold), changes) }
-
-pub unsettled_by : (failing : Option StoreFails) (old new : Option StoreTold) → ChangesFiles failing (λ files. files) SettledFiles old new failed_call
-    → StoreForetold failing (store_number old) failed_call → SettledBy false failing old new
-unsettled_by failing None new changes foretold = record { adds = tt; foretold_is = tt }
-unsettled_by None (Some told) new (inl changes) foretold = record { adds = store_adds (SettledFiles false) _ told new changes; foretold_is = tt }
-unsettled_by None (Some told) new (inr changes) foretold = record { adds = store_adds (SettledFiles false) _ told new changes; foretold_is = tt }
-unsettled_by (Some failing) (Some told) new changes foretold =
-    record { adds = store_adds (SettledFiles false) _ told new changes; foretold_is = (ap not (sym foretold), changes) }
-
-pub unwritten : (failing : Option StoreFails) (change : _) (call : Bool → StoreCall) (old new : Option StoreTold)
-    → ChangesFiles {T = Unit {0}} failing change call old new no_memory → new ≡ old
-unwritten failing change call None new changes = changes
-unwritten failing change call (Some told) new changes = changes
+pub unwritten : (failing : Option StoreFails) (call : Bool → StoreCall) (old new : Option StoreTold)
+    → ChangesFiles {T = Unit {0}} failing call old new no_memory → new ≡ old
+unwritten failing call None new changes = changes
+unwritten failing call (Some told) new changes = changes
 
 -- ---- how a store answered a listing and a reading
 
@@ -410,19 +364,17 @@ hooks_add : (call : HookCall) (told : HooksTold) (new : Option HooksTold) → ne
     → Adds (Some told.calls) (option_map (λ t. t.calls) new) (call ∷ [])
 hooks_add call told new same = subst (λ (n : Option HooksTold). Adds (Some told.calls) (option_map (λ t. t.calls) n) (call ∷ [])) (sym same) refl
 
-pub started_by : (job : Job) (failing : Option (List ℕ)) (old new : Option HooksTold) → StartsJob job old new done_call
-    → Foretold failing (start_number old) done_call → StartedBy job true failing old new
-started_by job failing None new starts foretold = record { adds = tt; foretold_is = tt }
-started_by job None (Some told) new starts foretold = record { adds = hooks_add (Started job true) told new starts; foretold_is = tt }
-started_by job (Some failing) (Some told) new starts foretold =
+pub started_by : (job : Job) (failing : Option (List ℕ)) (old new : Option HooksTold) (answer : Result (Unit {0}) DeviceAnswer)
+    → StartsJob job old new answer → Foretold failing (start_number old) answer → IfOk (done_of answer) (λ done. StartedBy job done failing old new)
+started_by job failing None new (Ok x) starts foretold = record { adds = tt; foretold_is = tt }
+started_by job failing None new (Err Answer.Failed) starts foretold = record { adds = tt; foretold_is = tt }
+started_by job None (Some told) new (Ok x) starts foretold = record { adds = hooks_add (Started job true) told new starts; foretold_is = tt }
+started_by job None (Some told) new (Err Answer.Failed) starts foretold = record { adds = hooks_add (Started job false) told new starts; foretold_is = tt }
+started_by job (Some failing) (Some told) new (Ok x) starts foretold =
     record { adds = hooks_add (Started job true) told new starts; foretold_is = (ap not (sym foretold), starts) }
-
-pub unstarted_by : (job : Job) (failing : Option (List ℕ)) (old new : Option HooksTold) → StartsJob job old new failed_call
-    → Foretold failing (start_number old) failed_call → StartedBy job false failing old new
-unstarted_by job failing None new starts foretold = record { adds = tt; foretold_is = tt }
-unstarted_by job None (Some told) new starts foretold = record { adds = hooks_add (Started job false) told new starts; foretold_is = tt }
-unstarted_by job (Some failing) (Some told) new starts foretold =
+started_by job (Some failing) (Some told) new (Err Answer.Failed) starts foretold =
     record { adds = hooks_add (Started job false) told new starts; foretold_is = (ap not (sym foretold), starts) }
+started_by job failing old new (Err Answer.NoMemory) starts foretold = tt
 
 pub unasked_start : (job : Job) (old new : Option HooksTold) → StartsJob {T = Unit {0}} job old new no_memory → new ≡ old
 unasked_start job None new starts = starts

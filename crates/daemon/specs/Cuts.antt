@@ -91,8 +91,8 @@ pub record BreaksOff (end : ServeEnd) (allowed : ℕ) (managed : List Managed) (
   pub within : length mets + wakes_asked at calls ≤ allowed
   pub all : HandledAll end (length mets) allowed
 
--- a life was cut off in the lines of its opening; what it told hooks and the resolver is safe to read, and variables are
--- what their names say
+-- a life was cut off in the lines of its opening; what it told hooks and the resolver is safe to read, and variables
+-- are what their names say
 pub record CutOpening (end : ServeEnd) (managed : List Managed) (specs : List IfSpec) (old new : Seen)
     (out_from out_to : Option (List ℕ)) : Type 0 where
   pub begun : Begun old

@@ -1,5 +1,5 @@
--- A file is saved and removed, and asides are cleared, by the same calls, whether the loop asks for one after another or
--- `lease_file` makes them at once.
+-- A file is saved and removed, and asides are cleared, by the same calls, whether the loop asks for one after another
+-- or `lease_file` makes them at once.
 use Rattle.std.specs.Prelude.{ℕ, ◌≡◌, ◌⊎◌, Bool, true, false, List, [], ◌∷◌, map, Option, Some, None}
 use Rattle.world.specs.StoreCalls.{StoreCall, ListedAsides}
 use Rattle.device_calls.specs.Calls.{Call, Store}
@@ -11,8 +11,8 @@ use Rattle.lease_file.specs.Saving.{save_calls, save_calls_to, IsOfSaving, remov
 use Rattle.turn_model.specs.KeptFiles.{bringing}
 use Rattle.turn_model.specs.Opening.{clearing}
 
--- What the loop asks to bring a file to what it is to hold: these calls where all are done, and those up to one of these
--- steps where it isn't. No other calls are made so.
+-- What the loop asks to bring a file to what it is to hold: these calls where all are done, and those up to one of
+-- these steps where it isn't. No other calls are made so.
 pub record AsksFor (name : List ℕ) (wanted : Option (List ℕ)) (all : List StoreCall) (IsStep : SaveStep → Type 0)
     (up_to : SaveStep → List StoreCall) : Type 0 where
   pub done : Makes (bringing name wanted) (map Store all) true

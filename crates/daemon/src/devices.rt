@@ -22,7 +22,7 @@ use lease_file::Got;
 use net_types::{Failed, IfIndex};
 use std::alloc::Global;
 use world::{
-    Begin, DeviceAnswer, HookJob, Hooks, Host, HostRow, Link, NoMemory, Poll, Store, Wake,
+    Begin, DeviceAnswer, HookJob, Hooks, Host, HostRow, Link, NoMemory, Poll, Store, Wake, done,
 };
 
 /// The devices that a life runs over.
@@ -34,7 +34,7 @@ pub struct Devices<L, S, H, K> {
     pub hooks: K,
 }
 
-#[tactic(auto, using(crate::proofs::Answers::offered_by, crate::proofs::Answers::untaken_by, crate::proofs::Answers::unoffered))]
+#[tactic(auto, using(crate::proofs::Answers::offered_by, crate::proofs::Answers::unoffered))]
 fn offer_to<L: Link>(link: &mut L, iface: IfIndex, frame: &[u8]) -> Result<bool, NoMemory>
     ensures offered { IfOk result
         (λ taken. OfferedBy iface.number frame.now taken (L.failing_sends link.old) (L.told link.old)
@@ -49,11 +49,7 @@ fn offer_to<L: Link>(link: &mut L, iface: IfIndex, frame: &[u8]) -> Result<bool,
     ensures memory { IfErr result
         (λ _. (L.told link.new ≡ L.told link.old) × (L.send_faults link.new ≡ L.send_faults link.old)) }
 {
-    match link.send(iface, frame) {
-        Ok(()) => Ok(true),
-        Err(DeviceAnswer::Failed) => Ok(false),
-        Err(DeviceAnswer::NoMemory) => Err(NoMemory),
-    }
+    done(link.send(iface, frame))
 }
 
 #[tactic(auto, using(crate::proofs::Answers::listed_by, crate::proofs::Answers::failed_list_by, crate::proofs::Answers::unlisted))]
@@ -74,7 +70,7 @@ fn list_of<H: Host>(alloc: Global, host: &mut H) -> Result<Option<Vec<HostRow>>,
     }
 }
 
-#[tactic(auto, using(crate::proofs::Answers::done_by, crate::proofs::Answers::undone_by, crate::proofs::Answers::unchanged))]
+#[tactic(auto, using(crate::proofs::Answers::changed_by, crate::proofs::Answers::unchanged))]
 fn change_of<H: Host>(host: &mut H, change: HostChange) -> Result<bool, NoMemory>
     requires { FitsChange change }
     ensures changed { IfOk result
@@ -85,15 +81,10 @@ fn change_of<H: Host>(host: &mut H, change: HostChange) -> Result<bool, NoMemory
     ensures failing { H.failing host.new ≡ H.failing host.old }
     ensures memory { IfErr result (λ _. (H.told host.new ≡ H.told host.old) × (H.faults host.new ≡ H.faults host.old)) }
 {
-    let answer = match change {
+    done(match change {
         HostChange::Remove(row) => host.remove(&row),
         HostChange::Add(row) => host.add(&row),
-    };
-    match answer {
-        Ok(()) => Ok(true),
-        Err(DeviceAnswer::Failed) => Ok(false),
-        Err(DeviceAnswer::NoMemory) => Err(NoMemory),
-    }
+    })
 }
 
 #[tactic(auto, using(crate::proofs::Answers::asides_by, crate::proofs::Answers::failed_asides_by, crate::proofs::Answers::asides_unlisted, crate::proofs::Answers::asides_answered, crate::proofs::Answers::no_asides_answered))]
@@ -144,7 +135,7 @@ fn read_from<S: Store>(alloc: Global, store: &mut S, name: &str) -> Result<Got, 
     }
 }
 
-#[tactic(auto, using(crate::proofs::Answers::written_by, crate::proofs::Answers::not_written_by, crate::proofs::Answers::unwritten))]
+#[tactic(auto, using(crate::proofs::Answers::store_changed_by, crate::proofs::Answers::unwritten, lease_file::proofs::OneChange::change_answered))]
 fn write_to<S: Store>(store: &mut S, name: &str, bytes: &[u8]) -> Result<bool, NoMemory>
     requires { IsFileName name.now }
     ensures written { IfOk result
@@ -159,14 +150,10 @@ fn write_to<S: Store>(store: &mut S, name: &str, bytes: &[u8]) -> Result<bool, N
     ensures memory { IfErr result
         (λ _. (S.told store.new ≡ S.told store.old) × (S.faults store.new ≡ S.faults store.old)) }
 {
-    match store.write_aside(name, bytes) {
-        Ok(()) => Ok(true),
-        Err(DeviceAnswer::Failed) => Ok(false),
-        Err(DeviceAnswer::NoMemory) => Err(NoMemory),
-    }
+    done(store.write_aside(name, bytes))
 }
 
-#[tactic(auto, using(crate::proofs::Answers::synced_by, crate::proofs::Answers::not_synced_by, crate::proofs::Answers::unwritten))]
+#[tactic(auto, using(crate::proofs::Answers::store_changed_by, crate::proofs::Answers::unwritten, lease_file::proofs::OneChange::change_answered))]
 fn sync_in<S: Store>(store: &mut S, name: &str) -> Result<bool, NoMemory>
     requires { IsFileName name.now }
     ensures synced { IfOk result
@@ -181,14 +168,10 @@ fn sync_in<S: Store>(store: &mut S, name: &str) -> Result<bool, NoMemory>
     ensures memory { IfErr result
         (λ _. (S.told store.new ≡ S.told store.old) × (S.faults store.new ≡ S.faults store.old)) }
 {
-    match store.sync_aside(name) {
-        Ok(()) => Ok(true),
-        Err(DeviceAnswer::Failed) => Ok(false),
-        Err(DeviceAnswer::NoMemory) => Err(NoMemory),
-    }
+    done(store.sync_aside(name))
 }
 
-#[tactic(auto, using(crate::proofs::Answers::renamed_by, crate::proofs::Answers::not_renamed_by, crate::proofs::Answers::unwritten))]
+#[tactic(auto, using(crate::proofs::Answers::renamed_by, crate::proofs::Answers::unwritten, lease_file::proofs::OneChange::renaming_answered))]
 fn rename_in<S: Store>(store: &mut S, name: &str) -> Result<bool, NoMemory>
     requires { IsFileName name.now }
     ensures renamed { IfOk result
@@ -203,14 +186,10 @@ fn rename_in<S: Store>(store: &mut S, name: &str) -> Result<bool, NoMemory>
     ensures memory { IfErr result
         (λ _. (S.told store.new ≡ S.told store.old) × (S.faults store.new ≡ S.faults store.old)) }
 {
-    match store.rename_aside(name) {
-        Ok(()) => Ok(true),
-        Err(DeviceAnswer::Failed) => Ok(false),
-        Err(DeviceAnswer::NoMemory) => Err(NoMemory),
-    }
+    done(store.rename_aside(name))
 }
 
-#[tactic(auto, using(crate::proofs::Answers::removed_by, crate::proofs::Answers::unremoved_by, crate::proofs::Answers::unwritten))]
+#[tactic(auto, using(crate::proofs::Answers::store_changed_by, crate::proofs::Answers::unwritten, lease_file::proofs::OneChange::change_answered))]
 fn remove_from<S: Store>(store: &mut S, name: &str) -> Result<bool, NoMemory>
     requires { IsFileName name.now }
     ensures removed { IfOk result
@@ -225,14 +204,10 @@ fn remove_from<S: Store>(store: &mut S, name: &str) -> Result<bool, NoMemory>
     ensures memory { IfErr result
         (λ _. (S.told store.new ≡ S.told store.old) × (S.faults store.new ≡ S.faults store.old)) }
 {
-    match store.remove(name) {
-        Ok(()) => Ok(true),
-        Err(DeviceAnswer::Failed) => Ok(false),
-        Err(DeviceAnswer::NoMemory) => Err(NoMemory),
-    }
+    done(store.remove(name))
 }
 
-#[tactic(auto, using(crate::proofs::Answers::settled_by, crate::proofs::Answers::unsettled_by, crate::proofs::Answers::unwritten))]
+#[tactic(auto, using(crate::proofs::Answers::store_changed_by, crate::proofs::Answers::unwritten, lease_file::proofs::OneChange::change_answered))]
 fn settle_in<S: Store>(store: &mut S) -> Result<bool, NoMemory>
     ensures settled { IfOk result (λ done. SettledBy done (S.failing store.old) (S.told store.old) (S.told store.new)) }
     ensures answered { IfOk result
@@ -244,14 +219,10 @@ fn settle_in<S: Store>(store: &mut S) -> Result<bool, NoMemory>
     ensures memory { IfErr result
         (λ _. (S.told store.new ≡ S.told store.old) × (S.faults store.new ≡ S.faults store.old)) }
 {
-    match store.settle() {
-        Ok(()) => Ok(true),
-        Err(DeviceAnswer::Failed) => Ok(false),
-        Err(DeviceAnswer::NoMemory) => Err(NoMemory),
-    }
+    done(store.settle())
 }
 
-#[tactic(auto, using(crate::proofs::Answers::started_by, crate::proofs::Answers::unstarted_by, crate::proofs::Answers::unasked_start))]
+#[tactic(auto, using(crate::proofs::Answers::started_by, crate::proofs::Answers::unasked_start))]
 fn start_of<K: Hooks>(hooks: &mut K, job: &HookJob) -> Result<bool, NoMemory>
     requires { K.running hooks.old ≡ false }
     ensures started { IfOk result
@@ -265,11 +236,7 @@ fn start_of<K: Hooks>(hooks: &mut K, job: &HookJob) -> Result<bool, NoMemory>
         (λ _. (K.told hooks.new ≡ K.told hooks.old)
         × ((K.faults hooks.new ≡ K.faults hooks.old) × (K.running hooks.new ≡ K.running hooks.old))) }
 {
-    match hooks.start(job) {
-        Ok(()) => Ok(true),
-        Err(DeviceAnswer::Failed) => Ok(false),
-        Err(DeviceAnswer::NoMemory) => Err(NoMemory),
-    }
+    done(hooks.start(job))
 }
 
 #[tactic(auto, using(crate::proofs::Answers::polled_by))]

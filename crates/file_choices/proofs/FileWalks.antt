@@ -1,13 +1,13 @@
 -- What one call makes of what may be left of a file.
-use Rattle.std.proofs.Common.{◌≡◌, ℕ, Bool, true, false, not, ◌||◌, ◌&&◌, inl, inr, List, ◌∷◌, Option, Some, None, refl, sym, ap, subst, ◌∙◌, cond}
+use Rattle.std.proofs.Common.{◌≡◌, ℕ, Bool, true, false, not, ◌||◌, ◌&&◌, ◌⊎◌, inl, inr, List, ◌∷◌, Option, Some, None, refl, sym, ap, subst, ◌∙◌, cond}
 use Rattle.world.proofs.NetTypes.CaseLaws.{split}
 use Rattle.world.specs.FileNames.{aside_of, is_name}
 use Rattle.world.specs.FileLists.{StoreFile, file_at, put_file, rename_file}
 use Rattle.world.specs.CrashImages.{ChangedFile, changed_name, changed_file, unchanged, MayBe}
 use Rattle.world.specs.DiskChanges.{with_content, synced, renamed, settled}
 use Rattle.world.specs.StoreFails.{StoreFails}
-use Rattle.world.specs.StoreCalls.{StoreTold, StoreCall, ListedAsides, ReadFile, WroteAside, SyncedAside, RenamedAside, RemovedFile, SettledFiles, store_answered, disk_after}
-use Rattle.world.specs.SoundStores.{IsSound, LeavesFiles, files_by, was_done}
+use Rattle.world.specs.StoreCalls.{StoreTold, StoreCall, ListedAsides, ReadFile, WroteAside, SyncedAside, RenamedAside, RemovedFile, SettledFiles, store_answered, disk_after, files_by, FailedFiles}
+use Rattle.world.specs.SoundStores.{IsSound, LeavesFiles, was_done}
 use Rattle.world.proofs.NameOrder.{name_itself, same_name, filter_stays, filter_goes}
 use Rattle.world.proofs.SoundStores.{changed_is_named, settled_stays, settled_goes}
 use Rattle.world.proofs.SoundCalls.{file_found, file_kept, file_left, changed_there, changed_here}
@@ -15,13 +15,23 @@ use Rattle.file_choices.specs.StoreWalks.{LeavesAsTold}
 use Rattle.file_choices.specs.Choices.{with_aside, choices_after}
 use Rattle.file_choices.specs.LeftWhole.{left_of, MayLeave, Stays, changes, IsApart}
 
+-- a failed call may leave the files as they were
+failed_kept : (call : StoreCall) (old new : List StoreFile) → new ≡ old → FailedFiles call old new
+failed_kept (ListedAsides names) old new is = inl is
+failed_kept (ReadFile name reading) old new is = inl is
+failed_kept (WroteAside name bytes done) old new is = inl is
+failed_kept (SyncedAside name done) old new is = inl is
+failed_kept (RenamedAside name done) old new is = inl is
+failed_kept (RemovedFile name done) old new is = inl is
+failed_kept (SettledFiles done) old new is = inl is
+
 -- the files that a call leaves, in less words
 pub leaves_files : (failing : Option StoreFails) (call : StoreCall) (old new : List StoreFile) → LeavesAsTold failing call old new → LeavesFiles call old new
 leaves_files None call old new leaves = leaves
 leaves_files (Some fails) call old new leaves =
     elim (was_done call) as (λ b. was_done call ≡ b → new ≡ cond b (files_by call old) old → LeavesFiles call old new) [
       | true ↦ λ done is. inl is
-      | false ↦ λ failed is. inr (failed, is)
+      | false ↦ λ failed is. inr (failed, failed_kept call old new is)
     ] refl leaves
 
 -- what a call that was done makes of the files it makes of them
@@ -53,10 +63,32 @@ module _ (name : List ℕ) where
   made_apart (RemovedFile other done) files apart unlike = file_left other name files unlike
   made_apart (SettledFiles done) files apart unlike = refl
 
+  kept_or_made : (call : StoreCall) (old new : List StoreFile) → IsApart name call → changes name call ≡ false → (new ≡ old) ⊎ (new ≡ files_by call old)
+      → file_at name new ≡ file_at name old
+  kept_or_made call old new apart unlike (inl kept) = ap (file_at name) kept
+  kept_or_made call old new apart unlike (inr made) = ap (file_at name) made ∙ made_apart call old apart unlike
+
+  -- what a failed writing left in an aside is in no other file
+  half_written : (other bytes : List ℕ) (done : Bool) (old new : List StoreFile) → is_name name (aside_of other) ≡ false
+      → FailedFiles (WroteAside other bytes done) old new → file_at name new ≡ file_at name old
+  half_written other bytes done old new apart (inl kept) = ap (file_at name) kept
+  half_written other bytes done old new apart (inr (left, is)) =
+      ap (file_at name) is ∙ file_kept (record { name = aside_of other; bytes = left }) name old apart
+
+  failed_apart : (call : StoreCall) (old new : List StoreFile) → IsApart name call → changes name call ≡ false → FailedFiles call old new
+      → file_at name new ≡ file_at name old
+  failed_apart (ListedAsides names) old new apart unlike failed = kept_or_made (ListedAsides names) old new apart unlike failed
+  failed_apart (ReadFile other reading) old new apart unlike failed = kept_or_made (ReadFile other reading) old new apart unlike failed
+  failed_apart (WroteAside other bytes done) old new apart unlike failed = half_written other bytes done old new apart failed
+  failed_apart (SyncedAside other done) old new apart unlike failed = kept_or_made (SyncedAside other done) old new apart unlike failed
+  failed_apart (RenamedAside other done) old new apart unlike failed = kept_or_made (RenamedAside other done) old new apart unlike failed
+  failed_apart (RemovedFile other done) old new apart unlike failed = kept_or_made (RemovedFile other done) old new apart unlike failed
+  failed_apart (SettledFiles done) old new apart unlike failed = kept_or_made (SettledFiles done) old new apart unlike failed
+
   pub reads_stay : (call : StoreCall) (old new : List StoreFile) → IsApart name call → changes name call ≡ false → LeavesFiles call old new
       → file_at name new ≡ file_at name old
   reads_stay call old new apart unlike (inl is) = ap (file_at name) is ∙ made_apart call old apart unlike
-  reads_stay call old new apart unlike (inr kept) = ap (file_at name) kept.1
+  reads_stay call old new apart unlike (inr failed) = failed_apart call old new apart unlike failed.1
 
   module _ (told : StoreTold) where
     abbrev was : List ℕ → ChangedFile
@@ -221,7 +253,8 @@ aside_written told name bytes files leaves =
 pub sync_files : (told : StoreTold) (name : List ℕ) (done : Bool) (files : List StoreFile) → LeavesFiles (SyncedAside name done) told.files files
     → files ≡ told.files
 sync_files told name done files (inl is) = is
-sync_files told name done files (inr kept) = kept.1
+sync_files told name done files (inr (failed, inl kept)) = kept
+sync_files told name done files (inr (failed, inr kept)) = kept
 
 -- an aside that was synced is as it reads
 pub aside_synced : (told : StoreTold) (name bytes : List ℕ) → file_at (aside_of name) told.files ≡ Some bytes → (r : Option (List ℕ))

@@ -2,10 +2,10 @@
 use Rattle.std.specs.Prelude.{◌≡◌, ◌⊎◌, ◌+◌, true, false, not, List, [], ◌∷◌, length, Option, Some, None, is_some, if◌then◌else◌}
 use Rattle.world.specs.FileLists.{StoreFile, file_at, asides}
 use Rattle.world.specs.StoreFails.{StoreFails, fails_at}
-use Rattle.world.specs.StoreCalls.{StoreCall, ListedAsides, ReadFile, WroteAside, SyncedAside, RenamedAside, RemovedFile, SettledFiles, Unread, reading_of, StoreTold, store_answered, fails_rename}
-use Rattle.world.specs.SoundStores.{LeavesFiles, files_by, was_done}
+use Rattle.world.specs.StoreCalls.{StoreCall, ListedAsides, ReadFile, WroteAside, SyncedAside, RenamedAside, RemovedFile, SettledFiles, Unread, reading_of, StoreTold, store_answered, files_by, fails_rename}
+use Rattle.world.specs.SoundStores.{LeavesFiles, was_done}
 
--- A call that failed left the files as they were or changed; where it is told which calls fail, as they were.
+-- Where it is told which calls fail, a call that failed left the files as they were.
 abbrev pub LeavesAsTold : Option StoreFails → StoreCall → List StoreFile → List StoreFile → Type 0
 LeavesAsTold None call old new = LeavesFiles call old new
 LeavesAsTold (Some fails) call old new = new ≡ (if was_done call then files_by call old else old)

@@ -3,3 +3,4 @@ pub mod Readings
 pub mod Removals
 pub mod StepLaws
 pub mod CrashLaws
+pub mod OneChange

@@ -16,7 +16,7 @@ ghost use Rattle.lease_file.specs.AsideFiles.{without_one, without, TakesFile, T
 
 use crate::faults::{SaveFault, SaveStep};
 use std::alloc::Global;
-use world::{DeviceAnswer, NoMemory, Store};
+use world::{DeviceAnswer, NoMemory, Store, done};
 
 /// An aside, and whether it was removed.
 #[derive(Drop)]
@@ -61,6 +61,7 @@ fn list_asides<S: Store>(alloc: Global, store: &mut S) -> Result<Vec<String>, Sa
     }
 }
 
+#[tactic(auto, using(crate::proofs::OneChange::change_answered))]
 fn remove_aside<S: Store>(store: &mut S, name: &str) -> Result<bool, NoMemory>
     requires { IsFileName name.now }
     ensures later { S.faults store.old ≤ S.faults store.new }
@@ -81,11 +82,7 @@ fn remove_aside<S: Store>(store: &mut S, name: &str) -> Result<bool, NoMemory>
         (S.told store.new)) }
     ensures begun { IfErr result (λ _. S.told store.new ≡ S.told store.old) }
 {
-    match store.remove(name) {
-        Ok(()) => Ok(true),
-        Err(DeviceAnswer::Failed) => Ok(false),
-        Err(DeviceAnswer::NoMemory) => Err(NoMemory),
-    }
+    done(store.remove(name))
 }
 
 fn remove_asides<S: Store>(
@@ -121,6 +118,7 @@ fn remove_asides<S: Store>(
     Ok(removed)
 }
 
+#[tactic(auto, using(crate::proofs::OneChange::change_answered))]
 fn settle<S: Store>(store: &mut S) -> Result<bool, NoMemory>
     ensures later { S.faults store.old ≤ S.faults store.new }
     ensures failing { S.failing store.new ≡ S.failing store.old }
@@ -133,11 +131,7 @@ fn settle<S: Store>(store: &mut S) -> Result<bool, NoMemory>
         (λ done. Answered (S.failing store.old) (SettledFiles done ∷ []) (S.told store.old) (S.told store.new)) }
     ensures begun { IfErr result (λ _. S.told store.new ≡ S.told store.old) }
 {
-    match store.settle() {
-        Ok(()) => Ok(true),
-        Err(DeviceAnswer::Failed) => Ok(false),
-        Err(DeviceAnswer::NoMemory) => Err(NoMemory),
-    }
+    done(store.settle())
 }
 
 fn clear_steps<S: Store>(alloc: Global, store: &mut S) -> Result<Clearing, SaveFault>

@@ -4,11 +4,22 @@ ghost use Rattle.std.specs.Prelude.{◌≡◌, ◌≤◌, [], ◌∷◌};
 ghost use Rattle.world.specs.FileNames.{IsFileName};
 ghost use Rattle.world.specs.StoreCalls.{WroteAside, SyncedAside, RenamedAside, RemovedFile, SettledFiles};
 ghost use Rattle.file_choices.specs.LeftWhole.{LeavesWhole};
-ghost use Rattle.lease_file.specs.StoreAnswers.{Steps, HasStepCause};
+ghost use Rattle.lease_file.specs.StoreAnswers.{done_in_step, Steps, HasStepCause};
 ghost use Rattle.lease_file.specs.Saving.{Saves, Removes};
 
 use crate::faults::{SaveFault, SaveStep};
 use world::{DeviceAnswer, Store};
+
+/// What was answered in this step: a failure names the step.
+fn done_in(step: SaveStep, answer: Result<(), DeviceAnswer>) -> Result<(), SaveFault>
+    ensures { result ≡ done_in_step step answer }
+{
+    match answer {
+        Ok(()) => Ok(()),
+        Err(DeviceAnswer::Failed) => Err(SaveFault::Failed(step)),
+        Err(DeviceAnswer::NoMemory) => Err(SaveFault::NoMemory),
+    }
+}
 
 fn write<S: Store>(store: &mut S, name: &str, bytes: &[u8]) -> Result<(), SaveFault>
     requires { IsFileName name.now }
@@ -18,11 +29,7 @@ fn write<S: Store>(store: &mut S, name: &str, bytes: &[u8]) -> Result<(), SaveFa
     ensures step { Steps (S.failing store.old) SaveStep.Write (WroteAside name.now bytes.now) (S.told store.old)
         (S.told store.new) result }
 {
-    match store.write_aside(name, bytes) {
-        Ok(()) => Ok(()),
-        Err(DeviceAnswer::Failed) => Err(SaveFault::Failed(SaveStep::Write)),
-        Err(DeviceAnswer::NoMemory) => Err(SaveFault::NoMemory),
-    }
+    done_in(SaveStep::Write, store.write_aside(name, bytes))
 }
 
 fn sync<S: Store>(store: &mut S, name: &str) -> Result<(), SaveFault>
@@ -33,11 +40,7 @@ fn sync<S: Store>(store: &mut S, name: &str) -> Result<(), SaveFault>
     ensures step { Steps (S.failing store.old) SaveStep.Sync (SyncedAside name.now) (S.told store.old)
         (S.told store.new) result }
 {
-    match store.sync_aside(name) {
-        Ok(()) => Ok(()),
-        Err(DeviceAnswer::Failed) => Err(SaveFault::Failed(SaveStep::Sync)),
-        Err(DeviceAnswer::NoMemory) => Err(SaveFault::NoMemory),
-    }
+    done_in(SaveStep::Sync, store.sync_aside(name))
 }
 
 fn rename<S: Store>(store: &mut S, name: &str) -> Result<(), SaveFault>
@@ -48,11 +51,7 @@ fn rename<S: Store>(store: &mut S, name: &str) -> Result<(), SaveFault>
     ensures step { Steps (S.failing store.old) SaveStep.Rename (RenamedAside name.now) (S.told store.old)
         (S.told store.new) result }
 {
-    match store.rename_aside(name) {
-        Ok(()) => Ok(()),
-        Err(DeviceAnswer::Failed) => Err(SaveFault::Failed(SaveStep::Rename)),
-        Err(DeviceAnswer::NoMemory) => Err(SaveFault::NoMemory),
-    }
+    done_in(SaveStep::Rename, store.rename_aside(name))
 }
 
 fn take_away<S: Store>(store: &mut S, name: &str) -> Result<(), SaveFault>
@@ -63,11 +62,7 @@ fn take_away<S: Store>(store: &mut S, name: &str) -> Result<(), SaveFault>
     ensures step { Steps (S.failing store.old) SaveStep.Remove (RemovedFile name.now) (S.told store.old)
         (S.told store.new) result }
 {
-    match store.remove(name) {
-        Ok(()) => Ok(()),
-        Err(DeviceAnswer::Failed) => Err(SaveFault::Failed(SaveStep::Remove)),
-        Err(DeviceAnswer::NoMemory) => Err(SaveFault::NoMemory),
-    }
+    done_in(SaveStep::Remove, store.remove(name))
 }
 
 fn settle<S: Store>(store: &mut S) -> Result<(), SaveFault>
@@ -77,11 +72,7 @@ fn settle<S: Store>(store: &mut S) -> Result<(), SaveFault>
     ensures step { Steps (S.failing store.old) SaveStep.Settle SettledFiles (S.told store.old)
         (S.told store.new) result }
 {
-    match store.settle() {
-        Ok(()) => Ok(()),
-        Err(DeviceAnswer::Failed) => Err(SaveFault::Failed(SaveStep::Settle)),
-        Err(DeviceAnswer::NoMemory) => Err(SaveFault::NoMemory),
-    }
+    done_in(SaveStep::Settle, store.settle())
 }
 
 fn save_steps<S: Store>(store: &mut S, name: &str, bytes: &[u8]) -> Result<(), SaveFault>

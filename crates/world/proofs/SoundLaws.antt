@@ -33,9 +33,10 @@ module _ (told : StoreTold) (sound : IsSound told) where
 
   -- ---- writing
 
-  module _ (name bytes : List ℕ) where
+  -- (what it left in the aside may be other bytes than it was to write)
+  module _ (name bytes left : List ℕ) where
     abbrev aside : StoreFile
-    aside = record { name = aside_of name; bytes = bytes }
+    aside = record { name = aside_of name; bytes = left }
 
     written_sound : (done : Bool) (files : List StoreFile) → (files ≡ put_file aside told.files) ⊎ (files ≡ told.files)
         → After (WroteAside name bytes done) files
@@ -215,26 +216,37 @@ module _ (told : StoreTold) (sound : IsSound told) where
         knows = λ n. settles n (old n) told.disk told.undo sound.undo_in_order (sound.knows n);
       })
 
-  kept_files : (files by : List StoreFile) (done : Bool) → (files ≡ told.files) ⊎ ((done ≡ false) × (files ≡ told.files)) → files ≡ told.files
-  kept_files files by done (inl e) = e
-  kept_files files by done (inr e) = e.1
-
-  changed_files : (files by : List StoreFile) (done : Bool) → (files ≡ by) ⊎ ((done ≡ false) × (files ≡ told.files)) → (files ≡ by) ⊎ (files ≡ told.files)
+  changed_files : (files by : List StoreFile) (done : Bool) → (files ≡ by) ⊎ ((done ≡ false) × ((files ≡ told.files) ⊎ (files ≡ by)))
+      → (files ≡ by) ⊎ (files ≡ told.files)
   changed_files files by done (inl e) = inl e
-  changed_files files by done (inr e) = inr e.1
+  changed_files files by done (inr (failed, inl e)) = inr e
+  changed_files files by done (inr (failed, inr e)) = inl e
+
+  kept_files : (files : List StoreFile) (done : Bool) → (files ≡ told.files) ⊎ ((done ≡ false) × ((files ≡ told.files) ⊎ (files ≡ told.files)))
+      → files ≡ told.files
+  kept_files files done is = either (changed_files files told.files done is)
+    where
+      either : (files ≡ told.files) ⊎ (files ≡ told.files) → files ≡ told.files
+      either (inl e) = e
+      either (inr e) = e
+
+  written_after : (name bytes : List ℕ) (done : Bool) (files : List StoreFile) → LeavesFiles (WroteAside name bytes done) told.files files
+      → After (WroteAside name bytes done) files
+  written_after name bytes done files (inl e) = written_sound name bytes bytes done files (inl e)
+  written_after name bytes done files (inr (failed, inl e)) = written_sound name bytes bytes done files (inr e)
+  written_after name bytes done files (inr (failed, inr (left, e))) = written_sound name bytes left done files (inl e)
 
   pub sound_after : (call : StoreCall) (files : List StoreFile) → LeavesFiles call told.files files → After call files
-  sound_after (ListedAsides names) files is = same (ListedAsides names) files (kept_files files told.files true is) refl
-  sound_after (ReadFile name reading) files is = same (ReadFile name reading) files (kept_files files told.files true is) refl
-  sound_after (WroteAside name bytes done) files is =
-      written_sound name bytes done files (changed_files files (put_file (record { name = aside_of name; bytes = bytes }) told.files) done is)
-  sound_after (SyncedAside name true) files is = synced_by name (old (aside_of name)) refl files (kept_files files told.files true is)
-  sound_after (SyncedAside name false) files is = same (SyncedAside name false) files (kept_files files told.files true is) refl
+  sound_after (ListedAsides names) files is = same (ListedAsides names) files (kept_files files true is) refl
+  sound_after (ReadFile name reading) files is = same (ReadFile name reading) files (kept_files files true is) refl
+  sound_after (WroteAside name bytes done) files is = written_after name bytes done files is
+  sound_after (SyncedAside name true) files is = synced_by name (old (aside_of name)) refl files (kept_files files true is)
+  sound_after (SyncedAside name false) files is = same (SyncedAside name false) files (kept_files files true is) refl
   sound_after (RenamedAside name done) files is =
       renamed_by name (old (aside_of name)) refl done files (changed_files files (rename_file name (old (aside_of name)) told.files) done is)
   sound_after (RemovedFile name done) files is = removed_sound name done files (changed_files files (drop_file name told.files) done is)
-  sound_after (SettledFiles true) files is = settled_by files (kept_files files told.files true is)
-  sound_after (SettledFiles false) files is = same (SettledFiles false) files (kept_files files told.files true is) refl
+  sound_after (SettledFiles true) files is = settled_by files (kept_files files true is)
+  sound_after (SettledFiles false) files is = same (SettledFiles false) files (kept_files files true is) refl
 
   -- ---- images
 

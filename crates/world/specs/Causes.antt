@@ -2,6 +2,7 @@
 use Rattle.std.specs.Prelude.{ℕ, List, ◌<◌, ◌≤◌, ◌≡◌, ◌==◌, Bool, true, false, Option, Some, None, Result, Ok, Err, option_map}
 use Rattle.std.specs.List.{list_any}
 use Rattle.net_types.specs.declared.fault.Failed.{Failed}
+use Rattle.net_types.specs.declared.fault.NoMemory.{NoMemory}
 use Rattle.world.specs.declared.faults.DeviceAnswer.{DeviceAnswer}
 use Rattle.world.specs.declared.faults.DeviceAnswer.TheVariants as Answer
 
@@ -15,6 +16,12 @@ abbrev pub HasDeviceCause : {T : Type 0} → ℕ → ℕ → Result T DeviceAnsw
 HasDeviceCause old new (Ok x) = old ≤ new
 HasDeviceCause old new (Err Answer.Failed) = old < new
 HasDeviceCause old new (Err Answer.NoMemory) = new ≡ old
+
+-- whether a call was done; want of memory is handed on
+abbrev pub done_of : Result (Unit {0}) DeviceAnswer → Result Bool NoMemory
+done_of (Ok x) = Ok true
+done_of (Err Answer.Failed) = Ok false
+done_of (Err Answer.NoMemory) = Err (record {})
 
 -- whether a list has the number
 abbrev pub has_number : List ℕ → ℕ → Bool

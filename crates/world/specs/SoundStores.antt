@@ -1,12 +1,11 @@
 -- What holds at each moment of what a store tells: its files stand in order, and both what they read as and what
 -- undoing makes of them is one of the images that a crash may leave.
 use Rattle.std.specs.Prelude.{ℕ, ◌≡◌, ◌⊎◌, Bool, true, false, List, Option}
-use Rattle.world.specs.FileNames.{aside_of}
 use Rattle.world.specs.NamedLists.{named, InNameOrder}
-use Rattle.world.specs.FileLists.{StoreFile, file_name, file_at, put_file, drop_file, rename_file}
+use Rattle.world.specs.FileLists.{StoreFile, file_name, file_at}
 use Rattle.world.specs.CrashImages.{ChangedFile, changed_file, unchanged, MayBe}
 use Rattle.world.specs.Undoing.{UndoneFile, undone_name, undone_at, undone, is_emptied}
-use Rattle.world.specs.StoreCalls.{StoreCall, WroteAside, RenamedAside, RemovedFile, StoreTold, store_answered}
+use Rattle.world.specs.StoreCalls.{StoreCall, WroteAside, RenamedAside, RemovedFile, StoreTold, store_answered, files_by, FailedFiles}
 use Rattle.world.specs.DiskChanges.{settled}
 
 -- whether undoing empties the file
@@ -30,22 +29,15 @@ pub record IsSound (told : StoreTold) : Type 0 where
   pub undo_in_order : InNameOrder undone_name told.undo
   pub knows : (name : List ℕ) → KnowsFile told name
 
--- what a call makes of the files where it is done
-abbrev pub files_by : StoreCall → List StoreFile → List StoreFile
-files_by (WroteAside name bytes done) files = put_file (record { name = aside_of name; bytes = bytes }) files
-files_by (RenamedAside name done) files = rename_file name (file_at (aside_of name) files) files
-files_by (RemovedFile name done) files = drop_file name files
-files_by call files = files
-
 abbrev pub was_done : StoreCall → Bool
 was_done (WroteAside name bytes done) = done
 was_done (RenamedAside name done) = done
 was_done (RemovedFile name done) = done
 was_done call = true
 
--- A call that failed left the files as they were or changed.
-abbrev pub LeavesFiles : StoreCall → List StoreFile → List StoreFile → Type 0
-LeavesFiles call old new = (new ≡ files_by call old) ⊎ ((was_done call ≡ false) × (new ≡ old))
+-- A call left the files as it makes them; one that failed may have left others.
+abbrev pub LeavesFiles : StoreCall → (old new : List StoreFile) → Type 0
+LeavesFiles call old new = (new ≡ files_by call old) ⊎ ((was_done call ≡ false) × FailedFiles call old new)
 
 -- the files as a store reads them, and as they are where all is undone
 abbrev pub reads_of : StoreTold → List ℕ → Option (List ℕ)

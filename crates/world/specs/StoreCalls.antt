@@ -78,21 +78,35 @@ abbrev pub store_number : Option StoreTold → ℕ
 store_number None = 0
 store_number (Some told) = length told.calls + 1
 
--- A failed call left the files as they were or changed; where it is told which calls fail, as they were.
-abbrev pub FailedWrite : Option StoreFails → StoreCall → List StoreFile → StoreTold → Option StoreTold → Type 0
-FailedWrite None call changed told new =
-    (new ≡ Some (store_answered call told.files told)) ⊎ (new ≡ Some (store_answered call changed told))
-FailedWrite (Some failing) call changed told new = new ≡ Some (store_answered call told.files told)
+-- what a call makes of the files where it is done
+abbrev pub files_by : StoreCall → List StoreFile → List StoreFile
+files_by (WroteAside name bytes done) files = put_file (record { name = aside_of name; bytes = bytes }) files
+files_by (RenamedAside name done) files = rename_file name (file_at (aside_of name) files) files
+files_by (RemovedFile name done) files = drop_file name files
+files_by call files = files
 
--- a change to the files, and the call that asked for it
-abbrev pub ChangesFiles : {T : Type 0} → Option StoreFails → (List StoreFile → List StoreFile) → (Bool → StoreCall)
-    → Option StoreTold → Option StoreTold → Result T DeviceAnswer → Type 0
-ChangesFiles failing change call None new result = new ≡ None
-ChangesFiles failing change call (Some told) new (Ok x) =
-    new ≡ Some (store_answered (call true) (change told.files) told)
-ChangesFiles failing change call (Some told) new (Err Answer.Failed) =
-    FailedWrite failing (call false) (change told.files) told new
-ChangesFiles failing change call (Some told) new (Err Answer.NoMemory) = new ≡ Some told
+-- What a failed call may leave of the files: as they were, or as it makes them where it is done. A failed writing may
+-- leave any bytes in its aside: open() with O_TRUNC empties it, and write() may have written some of the bytes, but not
+-- all, when the next write() fails (IEEE Std 1003.1).
+abbrev pub FailedFiles : StoreCall → (old new : List StoreFile) → Type 0
+FailedFiles (WroteAside name bytes done) old new =
+    (new ≡ old) ⊎ ((left : List ℕ) × (new ≡ put_file (record { name = aside_of name; bytes = left }) old))
+FailedFiles call old new = (new ≡ old) ⊎ (new ≡ files_by call old)
+
+-- Where it is told which calls fail, a failed call left the files as they were.
+abbrev pub FailedWrite : Option StoreFails → StoreCall → StoreTold → Option StoreTold → Type 0
+FailedWrite None call told new =
+    (files : List StoreFile) × FailedFiles call told.files files × (new ≡ Some (store_answered call files told))
+FailedWrite (Some failing) call told new = new ≡ Some (store_answered call told.files told)
+
+-- a call that is to change the files
+abbrev pub ChangesFiles : {T : Type 0} → Option StoreFails → (Bool → StoreCall) → Option StoreTold → Option StoreTold
+    → Result T DeviceAnswer → Type 0
+ChangesFiles failing call None new result = new ≡ None
+ChangesFiles failing call (Some told) new (Ok x) =
+    new ≡ Some (store_answered (call true) (files_by (call true) told.files) told)
+ChangesFiles failing call (Some told) new (Err Answer.Failed) = FailedWrite failing (call false) told new
+ChangesFiles failing call (Some told) new (Err Answer.NoMemory) = new ≡ Some told
 
 -- the names of the asides, appended in byte order
 abbrev pub ListsAsides : {T : Type 0} → Option StoreTold → Option StoreTold → List (List ℕ) → List (List ℕ)
@@ -143,25 +157,23 @@ RenameForetold failing name (Some told) result = FailsAsTold (option_map (fails_
 
 abbrev pub WritesAside : {T : Type 0} → Option StoreFails → List ℕ → List ℕ → Option StoreTold → Option StoreTold
     → Result T DeviceAnswer → Type 0
-WritesAside failing name bytes =
-    ChangesFiles failing (put_file (record { name = aside_of name; bytes = bytes })) (WroteAside name bytes)
+WritesAside failing name bytes = ChangesFiles failing (WroteAside name bytes)
 
 abbrev pub SyncsAside : {T : Type 0} → Option StoreFails → List ℕ → Option StoreTold → Option StoreTold
     → Result T DeviceAnswer → Type 0
-SyncsAside failing name = ChangesFiles failing (λ files. files) (SyncedAside name)
+SyncsAside failing name = ChangesFiles failing (SyncedAside name)
 
 abbrev pub RenamesAside : {T : Type 0} → Option StoreFails → List ℕ → Option StoreTold → Option StoreTold
     → Result T DeviceAnswer → Type 0
-RenamesAside failing name =
-    ChangesFiles failing (λ files. rename_file name (file_at (aside_of name) files) files) (RenamedAside name)
+RenamesAside failing name = ChangesFiles failing (RenamedAside name)
 
 abbrev pub RemovesFile : {T : Type 0} → Option StoreFails → List ℕ → Option StoreTold → Option StoreTold
     → Result T DeviceAnswer → Type 0
-RemovesFile failing name = ChangesFiles failing (drop_file name) (RemovedFile name)
+RemovesFile failing name = ChangesFiles failing (RemovedFile name)
 
 abbrev pub Settles : {T : Type 0} → Option StoreFails → Option StoreTold → Option StoreTold → Result T DeviceAnswer
     → Type 0
-Settles failing = ChangesFiles failing (λ files. files) SettledFiles
+Settles failing = ChangesFiles failing SettledFiles
 
 -- names are appended, or none on a refusal; they are names of files
 abbrev pub AppendsNames : {T E : Type 0} → List (String Global) → List (String Global) → Result T E → Type 0

@@ -15,7 +15,7 @@ mod streams;
 mod wakes;
 
 pub use crash_laws::what_a_crash_leaves;
-pub use faults::DeviceAnswer;
+pub use faults::{DeviceAnswer, done};
 pub use hooking::{HookJob, HookVar, Hooks, Poll, add_variables};
 pub use hosts::Host;
 pub use links::Link;

@@ -39,7 +39,7 @@ pub trait Store {
         ensures foretold { StoreForetold (failing self.old) (store_number (told self.old)) result }
         ensures failing { failing self.new ≡ failing self.old };
 
-    /// Writes the aside of a file.
+    /// Writes the aside of a file. Where that fails, any bytes may be left in it.
     fn write_aside(&mut self, name: &str, bytes: &[u8]) -> Result<(), DeviceAnswer>
         requires { IsFileName name.now }
         ensures cause { HasDeviceCause (faults self.old) (faults self.new) result }

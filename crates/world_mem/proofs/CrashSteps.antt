@@ -60,13 +60,13 @@ step_sound told (Read name true) s = sound_after told s (ReadFile name (reading_
 step_sound told (Read name false) s = sound_after told s (ReadFile name Unread) told.files (inl refl)
 step_sound told (Write name bytes true) s =
     sound_after told s (WroteAside name bytes.items true) (put_file (record { name = aside_of name; bytes = bytes.items }) told.files) (inl refl)
-step_sound told (Write name bytes false) s = sound_after told s (WroteAside name bytes.items false) told.files (inr (refl, refl))
+step_sound told (Write name bytes false) s = sound_after told s (WroteAside name bytes.items false) told.files (inr (refl, inl refl))
 step_sound told (Sync name true) s = sound_after told s (SyncedAside name true) told.files (inl refl)
 step_sound told (Sync name false) s = sound_after told s (SyncedAside name false) told.files (inl refl)
 step_sound told (Rename name true) s = sound_after told s (RenamedAside name true) (rename_file name (file_at (aside_of name) told.files) told.files) (inl refl)
-step_sound told (Rename name false) s = sound_after told s (RenamedAside name false) told.files (inr (refl, refl))
+step_sound told (Rename name false) s = sound_after told s (RenamedAside name false) told.files (inr (refl, inl refl))
 step_sound told (Remove name true) s = sound_after told s (RemovedFile name true) (drop_file name told.files) (inl refl)
-step_sound told (Remove name false) s = sound_after told s (RemovedFile name false) told.files (inr (refl, refl))
+step_sound told (Remove name false) s = sound_after told s (RemovedFile name false) told.files (inr (refl, inl refl))
 step_sound told (Settle true) s = sound_after told s (SettledFiles true) told.files (inl refl)
 step_sound told (Settle false) s = sound_after told s (SettledFiles false) told.files (inl refl)
 step_sound told (Crash pick) s = crash_sound pick told s
