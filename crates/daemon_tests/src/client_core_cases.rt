@@ -1,13 +1,14 @@
-//! Tests that a turn of the client over 64 interfaces asks only those that are due or concerned, and that a stop asks
+//! A test that a turn of the client over 64 interfaces asks only those that are due or concerned, and that a stop asks
 //! all.
 
 ghost use Rattle.std.specs.Prelude.{◌≡◌, map, IfOk};
+ghost use Rattle.net_types.specs.Moments.{IsMoment};
 ghost use Rattle.world.specs.Rows.{IsInterface};
 ghost use Rattle.client_model.specs.Fitting.{AreBeginnings, FitsBeginning};
 ghost use Rattle.iface_core.specs.Beginnings.{beginning_of};
 
 use crate::interfaces::{DUID, managed};
-use client_core::{Beginning, Core, Turn, TurnInput, core_due, core_open, rows, step};
+use client_core::{Beginning, Core, Turn, TurnInput, core_open, step};
 use net_types::{IfIndex, NoMemory};
 use std::alloc::Global;
 use std::test::*;
@@ -67,58 +68,44 @@ fn quiet(at: u64) -> Turn<'static>
     }
 }
 
-#[test]
-fn a_turn_asks_those_alone_that_are_due(rt: HostRuntime) -> Result<(), Fail> {
-    let core = core(rt.alloc())?;
-    assert_eq!(rt; core_due(&core), Some(1001));
-    let stepped = step(core, quiet(1001))?;
-    assert_eq!(rt; stepped.outs.sends.len(), 1);
-    assert_eq!(rt; stepped.looks, 6);
-    assert_eq!(rt; stepped.changes, 0);
-    let stepped = step(stepped.core, quiet(1002))?;
-    assert_eq!(rt; stepped.looks, 0);
-    assert_eq!(rt; stepped.changes, 0);
-    assert!(rt; stepped.rows.gone.is_empty());
-    assert!(rt; stepped.rows.come.is_empty());
-    Ok(())
+/// The client after a turn, how often a machine was asked when it is due, and how many interfaces brought other rows.
+fn asked(core: Core, turn: Turn<'_>) -> Result<(Core, (u64, u64)), NoMemory>
+    requires { IsMoment turn.at }
+{
+    let stepped = step(core, turn)?;
+    Ok((stepped.core, (stepped.looks, stepped.changes)))
 }
 
+/// Each of the 64 interfaces has three machines, of which each is asked twice in a turn of its interface.
 #[test]
-fn a_turn_asks_those_alone_that_are_called(rt: HostRuntime) -> Result<(), Fail> {
-    let stepped = step(core(rt.alloc())?, quiet(1001))?;
-    let carrier = TurnInput::Carrier {
+fn a_turn_asks_those_alone_that_are_concerned(rt: HostRuntime) -> Result<(), Fail> {
+    // the first interface is due, and then none
+    let (core, due) = asked(core(rt.alloc())?, quiet(1001))?;
+    let (core, idle) = asked(core, quiet(1002))?;
+    let input = TurnInput::Carrier {
         iface: 40,
         up: true,
     };
-    let turn = Turn {
-        input: carrier,
+    let carrier = Turn {
+        input,
         ..quiet(1002)
     };
-    let stepped = step(stepped.core, turn)?;
-    assert_eq!(rt; stepped.looks, 6);
-    assert_eq!(rt; stepped.changes, 1);
-    assert!(rt; stepped.rows.gone.is_empty());
-    assert!(rt; !stepped.rows.come.is_empty());
-    let turn = Turn {
+    let (core, called) = asked(core, carrier)?;
+    // frames of the first two were refused, and the one with the new carrier is due
+    let refused = Turn {
         unsent: 3,
         ..quiet(1003)
     };
-    let stepped = step(stepped.core, turn)?;
-    assert_eq!(rt; stepped.looks, 18);
-    let stepped = step(stepped.core, quiet(1003))?;
-    assert_eq!(rt; stepped.looks, 0);
-    Ok(())
-}
-
-#[test]
-fn a_stop_asks_all(rt: HostRuntime) -> Result<(), Fail> {
-    let turn = Turn {
+    let (core, unsent) = asked(core, refused)?;
+    let (core, rested) = asked(core, quiet(1003))?;
+    let stop = Turn {
         input: TurnInput::Stop,
-        ..quiet(1001)
+        ..quiet(1004)
     };
-    let stepped = step(core(rt.alloc())?, turn)?;
-    assert_eq!(rt; stepped.looks, 384);
-    assert_eq!(rt; stepped.changes, 1);
-    assert!(rt; rows(&stepped.core).is_empty());
+    let (_, stopped) = asked(core, stop)?;
+    assert_eq!(rt;
+        [due, idle, called, unsent, rested, stopped],
+        [(6, 0), (0, 0), (6, 1), (18, 0), (0, 0), (384, 2)]
+    );
     Ok(())
 }

@@ -1,4 +1,4 @@
-//! An interface that is managed, for the cases of several crates.
+//! An interface that is managed.
 
 ghost use Rattle.std.specs.Prelude.{IfOk};
 ghost use Rattle.net_types.specs.AddressText.{FitsMac};
@@ -17,7 +17,7 @@ use std::alloc::Global;
 use std::test::Fail;
 use v6_options::IaKind;
 
-pub(crate) const MAC: Mac = Mac {
+const MAC: Mac = Mac {
     bytes: [2, 0, 0, 0, 0, 1],
 };
 
@@ -32,7 +32,7 @@ const NET: Net6 = Net6 {
 /// The DUID that is made of the hardware address (RFC 8415, section 11.4).
 pub(crate) const DUID: [u8; 10] = [0, 3, 0, 1, 2, 0, 0, 0, 0, 1];
 
-pub(crate) fn spec(index: IfIndex) -> Result<IfSpec, Fail>
+fn spec(index: IfIndex) -> Result<IfSpec, Fail>
     requires { IsInterface index.number }
     ensures index { IfOk result (λ spec. IsInterface spec.index.number) }
     ensures name { IfOk result (λ spec. FitsName spec.name) }

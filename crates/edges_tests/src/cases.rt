@@ -1,4 +1,4 @@
-//! The lines of the table: what is to be told of a life, and which calls fail in it.
+//! The lines of the table: what is to be told of a life, how many wakes it may handle, and which calls fail in it.
 
 use crate::failing::Failing;
 use std::alloc::{AllocError, Global};
@@ -13,10 +13,14 @@ pub(crate) enum Lines {
     Failed,
 }
 
+/// How many wakes a life may handle, where its line doesn't say.
+const TURNS: u64 = 1000;
+
 /// A life, by the calls that fail of each part of the machine.
 #[derive(Clone, Copy)]
 pub(crate) struct Case {
     pub(crate) lines: Lines,
+    pub(crate) turns: u64,
     pub(crate) disk: Failing,
     pub(crate) hooks: Failing,
     pub(crate) host: Failing,
@@ -48,6 +52,7 @@ impl Case {
         let none = Failing::none();
         Case {
             lines,
+            turns: TURNS,
             disk: none,
             hooks: none,
             host: none,
@@ -73,13 +78,22 @@ impl Case {
         Some(())
     }
 
-    /// The case of these words: what is told, and three words for each call that fails.
+    /// What three words say: how many wakes are allowed, or that one more call fails.
+    fn put(&mut self, part: &str, number: &str, kind: &str) -> Option<()> {
+        if part == "turns" {
+            self.turns = number.parse().ok()?;
+            return Some(());
+        }
+        self.fail(part, number, kind)
+    }
+
+    /// The case of these words: what is told, and three words for each thing that is said of the life.
     fn of_words(words: &[&str]) -> Option<Case> {
-        let (lines, calls) = words.split_first()?;
+        let (lines, rest) = words.split_first()?;
         let mut case = Case::new(lines_of(lines)?);
-        for three in calls.chunks_exact(3) {
-            if let [part, call, kind] = three {
-                case.fail(part, call, kind)?;
+        for three in rest.chunks_exact(3) {
+            if let [part, number, kind] = three {
+                case.put(part, number, kind)?;
             }
         }
         Some(case)

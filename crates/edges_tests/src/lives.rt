@@ -25,9 +25,6 @@ const LIVE: [&str; 6] = [
 
 const CONF: &[u8] = b"ipv4only\nnodelay\nnoarp\n";
 
-/// How many wakes a life may handle.
-const TURNS: u64 = 1000;
-
 type Machine = Devices<
     LoopLink<MemLoopback, NoWatch>,
     FolderStore<MemDisk>,
@@ -84,7 +81,7 @@ pub(crate) fn live(alloc: Global, case: &Case, out: &mut MemSink) -> Result<Ende
     let words = words(alloc)?;
     let mut input = MemSource::new(alloc, CONF.to_vec(alloc)?, Vec::new(alloc));
     let mut machine = machine(alloc, case)?;
-    let status = run(alloc, &words, &mut input, out, &mut machine, TURNS);
+    let status = run(alloc, &words, &mut input, out, &mut machine, case.turns);
     let kept = size_of(alloc, &mut machine.store, LEASE);
     Ok(Ended { status, kept })
 }

@@ -1,7 +1,7 @@
 //! One life of `live` for each line of the input, over a machine in memory: calls of which some fail, reads and writes
 //! that come short, datagrams of strangers, a clock that goes on with each wait. A line has what is to be told of the
 //! life, `all` or `failed` lines of its transcript, and three words for each call that fails: the part of the machine,
-//! the number of the call from 1, and the kind of its error.
+//! the number of the call from 1, and the kind of its error. `turns N allowed` says how many wakes it may handle.
 #![tactic(auto)]
 
 mod cases;
