@@ -1,5 +1,5 @@
--- What a wait of the loopback link brings: what the one datagram of the peer says that came in it, or nothing. `old` and
--- `new` are the calls of the system before and after, the last one first.
+-- What a wait of the loopback link brings: what the one datagram of the peer says that came in it, or nothing. `old`
+-- and `new` are the calls of the system before and after, the last one first.
 use Rattle.std.specs.Prelude.{ℕ, ◌≡◌, List, [], ◌∷◌, length, take, drop, Option, None, Some, Ok, if◌then◌else◌}
 use Rattle.world.specs.declared.wakes.Event.{Event}
 use Rattle.world.specs.declared.wakes.Event.TheVariants.{Quiet}

@@ -11,8 +11,8 @@ use Rattle.safe_texts.specs.SafeCalls.{GivesBytes, TellSafely}
 use Rattle.safe_texts.specs.SafeJobs.{job_in}
 use Rattle.exact_texts.specs.ExactJobs.{AreExactJobs}
 
--- It is safe to read. Where the frames that came in are bytes, each variable that was made for a job that was started or
--- dropped is what its form says.
+-- It is safe to read. Where the frames that came in are bytes, each variable that was made for a job that was started
+-- or dropped is what its form says.
 pub record TellExactly (managed : List Managed) (calls : List Call) : Type 0 where
   pub safe : TellSafely managed calls
   pub exact : AllByRecursion GivesBytes calls → AreExactJobs managed (flat_map job_in calls)
