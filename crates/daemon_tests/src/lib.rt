@@ -6,4 +6,6 @@ mod client_core_cases;
 #[cfg(test)]
 mod interfaces;
 #[cfg(test)]
+mod lease_file_cases;
+#[cfg(test)]
 mod name_cases;
