@@ -50,7 +50,8 @@ HELD_FORMS =
     ∷ (codes "delegated_address", One Network6)
     ∷ []
 
--- the form of the variable that is an option's value
+-- the form of the variable that is an option's value; no option of the table that a lease keeps has a value of any
+-- bytes, which would have no text
 abbrev pub option_form : ValueForm → Form
 option_form values.Address = One Address4
 option_form values.Addresses = Several Address4
