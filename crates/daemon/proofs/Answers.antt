@@ -18,7 +18,9 @@ use Rattle.net_types.specs.declared.fault.Failed.{Failed}
 use Rattle.world.specs.declared.hooking.Poll.{Poll}
 use Rattle.world.specs.HookCalls.{HooksTold, HookCall, Job, Started, Polled, Abandoned, StartsJob, AnswersPoll, Abandons, start_number, next_answer, polled, hooks_answered, said_by_poll}
 use Rattle.host_model.specs.declared.changes.HostChange.{HostChange}
+use Rattle.host_model.specs.declared.changes.HostChange.TheVariants.{Remove, Add}
 use Rattle.host_model.specs.HostTurn.{change_call, applied}
+use Rattle.device_calls.specs.HostWalks.{LeavesRows, HostAnswered}
 use Rattle.device_calls.specs.Telling.{Adds}
 use Rattle.device_calls.specs.Worlds.{Told, fails_store, fails_renaming, store_changed}
 use Rattle.daemon.specs.Answered.{By, OfferedBy, ListedBy, ChangedBy, AsidesBy, ReadBy, RenamedBy, StartedBy, PolledBy, AbandonedBy}
@@ -119,6 +121,55 @@ pub unchanged : (change : HostChange) (failing : Option (List ℕ)) (old new : O
     → Changes {T = Unit {0}} failing (applied change) (change_call change) old new no_memory → new ≡ old
 unchanged change failing None new changes = changes
 unchanged change failing (Some told) new changes = changes
+
+-- what a host tells that was answered so, whether or not it is told which of its calls fail
+one_left : (call : HostCall) (rows : List HostRow) (told : HostTold) (new : Option HostTold) → new ≡ Some (host_answered call rows told)
+    → LeavesRows call told.rows rows → HostAnswered (call ∷ []) (Some told) new
+one_left call rows told new same leaves = (host_answered call rows told, same, rows, leaves, refl)
+
+shown_rows : (old new : Option HostTold) (listing : List HostRow) → Shows old new listing → HostAnswered (Listed (Some (in_row_order listing)) ∷ []) old new
+shown_rows None new listing shows = shows
+shown_rows (Some told) new listing shows =
+    subst (λ (rows : List HostRow). HostAnswered (Listed (Some rows) ∷ []) (Some told) new) (sym shows.0)
+    (one_left (Listed (Some told.rows)) told.rows told new shows.1 (refl, refl))
+
+pub rows_answered : (old new : Option HostTold) (before after : List HostRow) → before ≡ [] → ListsRows old new before after
+    → HostAnswered (Listed (Some (in_row_order after)) ∷ []) old new
+rows_answered old new before after empty lists =
+    let same : after ≡ lists.listing = lists.appended ∙ ap (λ (rows : List HostRow). rows ++ lists.listing) empty in
+    subst (λ (rows : List HostRow). HostAnswered (Listed (Some (in_row_order rows)) ∷ []) old new) (sym same)
+    (shown_rows old new lists.listing lists.told)
+
+pub no_rows_answered : (old new : Option HostTold) → ListsNone old new Answer.Failed → HostAnswered (Listed None ∷ []) old new
+no_rows_answered None new none = none
+no_rows_answered (Some told) new none = one_left (Listed None) told.rows told new none refl
+
+change_done : (change : HostChange) (told : HostTold) → LeavesRows (change_call change true) told.rows (applied change told.rows)
+change_done (Remove row) told = refl
+change_done (Add row) told = refl
+
+change_kept : (change : HostChange) (told : HostTold) → LeavesRows (change_call change false) told.rows told.rows
+change_kept (Remove row) told = inl refl
+change_kept (Add row) told = inl refl
+
+change_made : (change : HostChange) (told : HostTold) → LeavesRows (change_call change false) told.rows (applied change told.rows)
+change_made (Remove row) told = inr refl
+change_made (Add row) told = inr refl
+
+pub row_answered : (change : HostChange) (failing : Option (List ℕ)) (old new : Option HostTold) (answer : Result (Unit {0}) DeviceAnswer)
+    → Changes failing (applied change) (change_call change) old new answer
+    → IfOk (done_of answer) (λ done. HostAnswered (change_call change done ∷ []) old new)
+row_answered change failing None new (Ok x) changes = changes
+row_answered change failing None new (Err Answer.Failed) changes = changes
+row_answered change failing (Some told) new (Ok x) changes =
+    one_left (change_call change true) (applied change told.rows) told new changes (change_done change told)
+row_answered change None (Some told) new (Err Answer.Failed) (inl changes) =
+    one_left (change_call change false) told.rows told new changes (change_kept change told)
+row_answered change None (Some told) new (Err Answer.Failed) (inr changes) =
+    one_left (change_call change false) (applied change told.rows) told new changes (change_made change told)
+row_answered change (Some failing) (Some told) new (Err Answer.Failed) changes =
+    one_left (change_call change false) told.rows told new changes (change_kept change told)
+row_answered change failing old new (Err Answer.NoMemory) changes = tt
 
 -- ---- the store
 

@@ -17,6 +17,8 @@ use Rattle.device_calls.specs.Worlds.{Seen, World, Told, told_from, told_of, wor
 use Rattle.device_calls.specs.Faults.{failed_send, failed_host_call, failed_store_call, failed_hook_call, CountsFailed}
 use Rattle.device_calls.specs.Telling.{Adds, Tells}
 use Rattle.device_calls.specs.Does.{One}
+use Rattle.device_calls.specs.HostWalks.{HostAnswered}
+use Rattle.device_calls.proofs.HostWalking.{host_answered_none}
 use Rattle.device_calls.proofs.Doing.{adds_none, answered_none, counts_none}
 use Rattle.daemon.specs.Answered.{OfferedBy, ListedBy, ChangedBy, AsidesBy, ReadBy, WrittenBy, SyncedBy, RenamedBy, RemovedBy, SettledBy, StartedBy, PolledBy, AbandonedBy}
 
@@ -103,6 +105,7 @@ link_tells call seen new faults adds counted = record {
   store = adds_none _;
   hooks = adds_none _;
   begins = refl;
+  table = host_answered_none seen.host.told;
   answers = answered_none seen.store.failing seen.store.told;
   failing = refl;
   counts =
@@ -116,13 +119,14 @@ link_tells call seen new faults adds counted = record {
 
 host_tells : (call : HostCall) (seen : Seen) (new : Option HostTold) (faults : ℕ)
     → Adds (option_map (λ told. told.calls) seen.host.told) (option_map (λ told. told.calls) new) (call ∷ [])
-    → CountsFailed failed_host_call (call ∷ []) seen.host.faults faults → Tells seen (with_host seen new faults) (Host call ∷ [])
-host_tells call seen new faults adds counted = record {
+    → HostAnswered (call ∷ []) seen.host.told new → CountsFailed failed_host_call (call ∷ []) seen.host.faults faults → Tells seen (with_host seen new faults) (Host call ∷ [])
+host_tells call seen new faults adds table counted = record {
   link = adds_none _;
   host = adds;
   store = adds_none _;
   hooks = adds_none _;
   begins = refl;
+  table = table;
   answers = answered_none seen.store.failing seen.store.told;
   failing = refl;
   counts =
@@ -144,6 +148,7 @@ store_tells call seen new faults adds answers counted = record {
   store = adds;
   hooks = adds_none _;
   begins = refl;
+  table = host_answered_none seen.host.told;
   answers = answers;
   failing = refl;
   counts =
@@ -164,6 +169,7 @@ hooks_tell number call seen new faults child adds counted = record {
   store = adds_none _;
   hooks = adds;
   begins = refl;
+  table = host_answered_none seen.host.told;
   answers = answered_none seen.store.failing seen.store.told;
   failing = refl;
   counts =
@@ -186,9 +192,9 @@ one_offer iface frame taken seen new faults by counted = record {
 }
 
 pub one_list : (rows : Option (List HostRow)) (seen : Seen) (new : Option HostTold) (faults : ℕ) → ListedBy rows seen.host.failing seen.host.told new
-    → CountsFailed failed_host_call (Listed rows ∷ []) seen.host.faults faults → One ListRows rows seen (with_host seen new faults)
-one_list rows seen new faults by counted = record {
-  tells = host_tells (Listed rows) seen new faults by.adds counted;
+    → HostAnswered (Listed rows ∷ []) seen.host.told new → CountsFailed failed_host_call (Listed rows ∷ []) seen.host.faults faults → One ListRows rows seen (with_host seen new faults)
+one_list rows seen new faults by table counted = record {
+  tells = host_tells (Listed rows) seen new faults by.adds table counted;
   foretold =
       host_told rows _ (λ told. host_answered (Listed rows) told.rows told) seen.host.failing seen.host.told new (told_of seen.link) (told_of seen.store)
       (told_of seen.hooks) by.foretold_is;
@@ -196,9 +202,9 @@ one_list rows seen new faults by counted = record {
 
 pub one_change : (change : HostChange) (done : Bool) (seen : Seen) (new : Option HostTold) (faults : ℕ)
     → ChangedBy change done seen.host.failing seen.host.told new
-    → CountsFailed failed_host_call (change_call change done ∷ []) seen.host.faults faults → One (Change change) done seen (with_host seen new faults)
-one_change change done seen new faults by counted = record {
-  tells = host_tells (change_call change done) seen new faults by.adds counted;
+    → HostAnswered (change_call change done ∷ []) seen.host.told new → CountsFailed failed_host_call (change_call change done ∷ []) seen.host.faults faults → One (Change change) done seen (with_host seen new faults)
+one_change change done seen new faults by table counted = record {
+  tells = host_tells (change_call change done) seen new faults by.adds table counted;
   foretold =
       host_told done _ (host_with change done) seen.host.failing seen.host.told new (told_of seen.link) (told_of seen.store)
       (told_of seen.hooks) by.foretold_is;
@@ -332,6 +338,7 @@ drop_tells job seen = record {
   store = adds_none _;
   hooks = adds_none _;
   begins = refl;
+  table = host_answered_none seen.host.told;
   answers = answered_none seen.store.failing seen.store.told;
   failing = refl;
   counts =

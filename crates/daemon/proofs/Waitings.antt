@@ -18,6 +18,8 @@ use Rattle.device_calls.specs.Worlds.{Device, Seen, World, Told, told_from, told
 use Rattle.file_choices.specs.StoreWalks.{Answered}
 use Rattle.device_calls.specs.Faults.{failed_send, failed_host_call, failed_store_call, failed_hook_call, CountsFailed}
 use Rattle.device_calls.specs.Telling.{Adds, Tells}
+use Rattle.device_calls.specs.HostWalks.{HostAnswered}
+use Rattle.device_calls.proofs.HostWalking.{host_answered_none}
 use Rattle.device_calls.proofs.Doing.{adds_none, answered_none, counts_none}
 use Rattle.turn_model.specs.Turns.{is_end}
 use Rattle.turn_model.specs.Foretold.{told_wake, told_bytes, woken}
@@ -55,6 +57,9 @@ others_answer old mid only =
     subst (λ (s : Device StoreTold StoreFails). Answered old.store.failing [] old.store.told s.told) (sym only.store)
     (answered_none old.store.failing old.store.told)
 
+table_stays : (old mid : Seen) → OnlyLink old mid → HostAnswered [] old.host.told mid.host.told
+table_stays old mid only = subst (λ (h : Device HostTold (List ℕ)). HostAnswered [] old.host.told h.told) (sym only.host) (host_answered_none old.host.told)
+
 counts_stay : {C : Type 0} (failed : C → Bool) (old new : ℕ) → new ≡ old → CountsFailed failed [] old new
 counts_stay failed old new same = subst (CountsFailed failed [] old) (sym same) (counts_none failed old)
 
@@ -66,6 +71,7 @@ link_alone old mid asked given only begins adds = record {
   store = subst (λ s. Adds (option_map (λ t. t.calls) old.store.told) (option_map (λ t. t.calls) s.told) []) (sym only.store) (adds_none _);
   hooks = subst (λ h. Adds (option_map (λ t. t.calls) old.hooks.told) (option_map (λ t. t.calls) h.told) []) (sym only.hooks) (adds_none _);
   begins = begins;
+  table = table_stays old mid only;
   answers = others_answer old mid only;
   failing = ap (λ (s : Device StoreTold StoreFails). s.failing) only.store;
   counts = record {
@@ -83,6 +89,7 @@ link_quiet old mid only begins adds = record {
   store = subst (λ s. Adds (option_map (λ t. t.calls) old.store.told) (option_map (λ t. t.calls) s.told) []) (sym only.store) (adds_none _);
   hooks = subst (λ h. Adds (option_map (λ t. t.calls) old.hooks.told) (option_map (λ t. t.calls) h.told) []) (sym only.hooks) (adds_none _);
   begins = begins;
+  table = table_stays old mid only;
   answers = others_answer old mid only;
   failing = ap (λ (s : Device StoreTold StoreFails). s.failing) only.store;
   counts = record {

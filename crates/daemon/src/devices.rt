@@ -10,6 +10,7 @@ ghost use Rattle.world.specs.StoreCalls.{ListedAsides, ReadFile, WroteAside, Syn
 ghost use Rattle.world.specs.HookCalls.{job_of, Started, Polled, Abandoned};
 ghost use Rattle.host_model.specs.HostTurn.{change_call};
 ghost use Rattle.file_choices.specs.StoreWalks.{Answered};
+ghost use Rattle.device_calls.specs.HostWalks.{HostAnswered};
 ghost use Rattle.device_calls.specs.Faults.{failed_send, failed_host_call, failed_store_call, failed_hook_call, CountsFailed};
 ghost use Rattle.lease_file.specs.FileReads.{got_reading};
 ghost use Rattle.daemon.specs.Answered.{rows_listed, names_of, FitsChange, OfferedBy, ListedBy, ChangedBy};
@@ -52,10 +53,12 @@ fn offer_to<L: Link>(link: &mut L, iface: IfIndex, frame: &[u8]) -> Result<bool,
     done(link.send(iface, frame))
 }
 
-#[tactic(auto, using(crate::proofs::Answers::listed_by, crate::proofs::Answers::failed_list_by, crate::proofs::Answers::unlisted))]
+#[tactic(auto, using(crate::proofs::Answers::listed_by, crate::proofs::Answers::failed_list_by, crate::proofs::Answers::unlisted, crate::proofs::Answers::rows_answered, crate::proofs::Answers::no_rows_answered))]
 fn list_of<H: Host>(alloc: Global, host: &mut H) -> Result<Option<Vec<HostRow>>, NoMemory>
     ensures listed { IfOk result
         (λ rows. ListedBy (rows_listed rows) (H.failing host.old) (H.told host.old) (H.told host.new)) }
+    ensures answered { IfOk result
+        (λ rows. HostAnswered (Listed (rows_listed rows) ∷ []) (H.told host.old) (H.told host.new)) }
     ensures counted { IfOk result
         (λ rows. CountsFailed failed_host_call (Listed (rows_listed rows) ∷ []) (H.faults host.old)
         (H.faults host.new)) }
@@ -70,11 +73,13 @@ fn list_of<H: Host>(alloc: Global, host: &mut H) -> Result<Option<Vec<HostRow>>,
     }
 }
 
-#[tactic(auto, using(crate::proofs::Answers::changed_by, crate::proofs::Answers::unchanged))]
+#[tactic(auto, using(crate::proofs::Answers::changed_by, crate::proofs::Answers::unchanged, crate::proofs::Answers::row_answered))]
 fn change_of<H: Host>(host: &mut H, change: HostChange) -> Result<bool, NoMemory>
     requires { FitsChange change }
     ensures changed { IfOk result
         (λ done. ChangedBy change done (H.failing host.old) (H.told host.old) (H.told host.new)) }
+    ensures answered { IfOk result
+        (λ done. HostAnswered (change_call change done ∷ []) (H.told host.old) (H.told host.new)) }
     ensures counted { IfOk result
         (λ done. CountsFailed failed_host_call (change_call change done ∷ []) (H.faults host.old)
         (H.faults host.new)) }

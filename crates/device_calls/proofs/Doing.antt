@@ -7,6 +7,9 @@ use Rattle.world.specs.StoreFails.{StoreFails}
 use Rattle.world.specs.StoreCalls.{StoreCall, StoreTold}
 use Rattle.file_choices.specs.StoreWalks.{Answered}
 use Rattle.file_choices.proofs.Walking.{answered_more}
+use Rattle.world.specs.HostCalls.{HostCall}
+use Rattle.device_calls.specs.HostWalks.{HostAnswered}
+use Rattle.device_calls.proofs.HostWalking.{host_answered_none, host_answered_more}
 use Rattle.device_calls.specs.Calls.{Ask, AnswerTo, Call, made, link_call, host_call, store_call, hook_call}
 use Rattle.device_calls.specs.CallLines.{lines_of}
 use Rattle.device_calls.specs.Programs.{Asks, Done, Then, after}
@@ -52,6 +55,7 @@ tells_none seen = record {
   store = adds_none _;
   hooks = adds_none _;
   begins = refl;
+  table = host_answered_none seen.host.told;
   answers = answered_none seen.store.failing seen.store.told;
   failing = refl;
   counts = counts_nothing seen;
@@ -90,6 +94,8 @@ tells_then old mid new a b p q = record {
   store = both_tell (λ told. told.calls) store_call old.store mid.store new.store a b p.store q.store;
   hooks = both_tell (λ told. told.calls) hook_call old.hooks mid.hooks new.hooks a b p.hooks q.hooks;
   begins = q.begins ∙ p.begins;
+  table = subst (λ (calls : List HostCall). HostAnswered calls old.host.told new.host.told) (sym (flat_map-append host_call a b))
+      (host_answered_more (flat_map host_call a) (flat_map host_call b) old.host.told mid.host.told new.host.told p.table q.table);
   answers = subst (λ (calls : List StoreCall). Answered old.store.failing calls old.store.told new.store.told) (sym (flat_map-append store_call a b))
       (answered_more old.store.failing mid.store.failing (flat_map store_call a) (flat_map store_call b) old.store.told mid.store.told new.store.told
       p.failing p.answers q.answers);

@@ -3,6 +3,7 @@ pub mod CallLines
 pub mod Programs
 pub mod Worlds
 pub mod Faults
+pub mod HostWalks
 pub mod Telling
 pub mod Printing
 pub mod Does
