@@ -25,7 +25,7 @@ use Rattle.dhcpcd.proofs.Endings.{configured, not_too_long}
 use Rattle.daemon.proofs.FileEvidence.StoreRuns.{foretold_whole}
 use Rattle.daemon.proofs.SafeTexts.PlainConfigurations.{configured_texts_are_safe}
 use Rattle.dhcpcd.proofs.FilesRightly.{life_keeps}
-use Rattle.dhcpcd.proofs.HostRightly.{life_holds}
+use Rattle.dhcpcd.proofs.HostRightly.{life_holds, life_held}
 use Rattle.dhcpcd.proofs.SafelyTold.{life_tells}
 use Rattle.dhcpcd.proofs.Refusals.{in_force}
 
@@ -64,10 +64,16 @@ head_cut answer ask out out_to seen front stops = answers answer stops
     answers status.TooLong stops = absurd stops
     answers status.NoMemory stops = inl cut
 
-pub served_whole : (ask : Asked) (out middle out_to : Option (List ℕ)) (seen seen_to : Seen) → WritesLines out middle (head_of ask)
-    → Served ask.turns (managed_of ask.conf ask.specs) ask.specs seen seen_to middle out_to → LeavesFiled (managed_of ask.conf ask.specs) ask.specs seen seen_to
+pub served_whole : (ask : Asked) (out middle out_to : Option (List ℕ)) (seen seen_to : Seen) → IsConfOf ask.text (Ok ask.conf) → FitInterfaces ask.specs
+    → WritesLines out middle (head_of ask) → Served ask.turns (managed_of ask.conf ask.specs) ask.specs seen seen_to middle out_to → LeavesFiled (managed_of ask.conf ask.specs) ask.specs seen seen_to
     → IsServed ask (around out out_to seen seen_to)
-served_whole ask out middle out_to seen seen_to head served files = record { middle = middle; head = head; served = served; files = files }
+served_whole ask out middle out_to seen seen_to is fits head served files = record {
+  middle = middle;
+  head = head;
+  served = served;
+  files = files;
+  held = life_held ask.text ask.conf is ask.specs fits ask.turns seen seen_to middle out_to served;
+}
 
 pub cut_off : (end : ServeEnd) (ask : Asked) (out middle out_to : Option (List ℕ)) (seen seen_to : Seen) → WritesLines out middle (head_of ask)
     → Leaves end ask.turns (managed_of ask.conf ask.specs) ask.specs seen seen_to middle out_to
