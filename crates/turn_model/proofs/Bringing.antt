@@ -39,7 +39,7 @@ module _ (name : List ℕ) where
   pub unchanged : (files : List StoreFile) → Changed files files
   unchanged files = record { order = λ o. o; others = λ n file aside. refl }
 
-  both : (a b c : List StoreFile) → Changed a b → Changed b c → Changed a c
+  pub both : (a b c : List StoreFile) → Changed a b → Changed b c → Changed a c
   both a b c first later = record {
     order = λ o. later.order (first.order o);
     others = λ n file aside. later.others n file aside ∙ first.others n file aside;
@@ -67,7 +67,7 @@ module _ (name : List ℕ) where
             drop_kept file_name has None n (aside_of name) aside put ∙ put_kept file_name has None n (record { name = name; bytes = bytes }) file files;
       }
 
-  come : (bytes : List ℕ) (files : List StoreFile) → file_at name (rename_file name (Some bytes) files) ≡ Some bytes
+  pub come : (bytes : List ℕ) (files : List StoreFile) → file_at name (rename_file name (Some bytes) files) ≡ Some bytes
   come bytes files =
       let put : List StoreFile = put_file (record { name = name; bytes = bytes }) files in
       drop_kept file_name has None name (aside_of name) (unlike_aside name) put

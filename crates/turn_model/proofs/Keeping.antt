@@ -26,13 +26,13 @@ same_is None (Some b) e = absurd (false≢true e)
 same_is (Some a) None e = absurd (false≢true e)
 same_is (Some a) (Some b) e = ap Some ((bytes_eq-Decides a b).0 e)
 
-settled_is : (keeps : Keeps) (known : Known) (wanted reads : Option (List ℕ)) → is_settled keeps known wanted ≡ true → KnownTruly known reads
+pub settled_is : (keeps : Keeps) (known : Known) (wanted reads : Option (List ℕ)) → is_settled keeps known wanted ≡ true → KnownTruly known reads
     → IsWanted keeps wanted known reads
 settled_is keeps (Holds content) wanted reads e truly = inl (truly ∙ same_is content wanted e)
 settled_is keeps Unknown wanted reads e truly = absurd (false≢true e)
 settled_is keeps Unread wanted reads e truly = inr (refl, e)
 
-known_so : (wanted reads : Option (List ℕ)) (done : Bool) → (done ≡ true → reads ≡ wanted) → KnownTruly (known_after wanted done) reads
+pub known_so : (wanted reads : Option (List ℕ)) (done : Bool) → (done ≡ true → reads ≡ wanted) → KnownTruly (known_after wanted done) reads
 known_so wanted reads true is = is refl
 known_so wanted reads false is = tt
 
@@ -91,7 +91,7 @@ abbrev pub IsKept : List Iface → List StoreFile → KeptFile → Type 0
 IsKept ifaces store file = IsWanted file.keeps (wanted_in ifaces file.keeps) file.known (file_at file.name store)
 
 -- a name other than that of a file and of its aside reads as before
-stays_known : (file : KeptFile) (before later : List StoreFile) → Changed file.name before later → (files : List KeptFile)
+pub stays_known : (file : KeptFile) (before later : List StoreFile) → Changed file.name before later → (files : List KeptFile)
     → AllByRecursion (Apart (filed_as file)) (all_filed files) → AreKnown before files → AreKnown later files
 stays_known file before later changed [] apart known = tt
 stays_known file before later changed (g ∷ files) apart known = (
@@ -107,7 +107,7 @@ pub record Kept (ifaces : List Iface) (files : List KeptFile) (before : List Sto
   pub kept : all_done ran.calls ≡ true → AllByRecursion (IsKept ifaces (files_in ran.world)) ran.result
 
 module _ (ifaces : List Iface) where
-  first_clear : (first : Filed) (others : List Filed) → AllByRecursion (Apart first) others
+  pub first_clear : (first : Filed) (others : List Filed) → AllByRecursion (Apart first) others
       → AllByRecursion (λ (filed : Filed). Clear first.name filed.name) others
   first_clear first [] h = tt
   first_clear first (other ∷ others) h = (h.0.one, first_clear first others h.1)

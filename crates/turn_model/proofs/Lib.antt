@@ -6,11 +6,11 @@ pub mod OwnLeases
 pub mod Acting
 pub mod HostInLifeTurns
 pub mod HooksApart
-mod FileNames
+pub mod FileNames
 pub mod UnlikeNames
-mod Bringing
-mod Keeping
-mod Reading
+pub mod Bringing
+pub mod Keeping
+pub mod Reading
 pub mod FilesInLifeTurns
 pub mod FilesInOrder
 pub use Rattle.client_model.proofs.ArpAcd

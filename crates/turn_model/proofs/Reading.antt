@@ -62,7 +62,7 @@ one_read : (is_kept : Bool) (keeps : Keeps) (name : List ℕ) (world : World) �
 one_read true keeps name world = record { same = refl; filed = refl; known = (known_read (fails_store world.store) (file_at name (files_in world)), tt) }
 one_read false keeps name world = record { same = refl; filed = refl; known = tt }
 
-all_known : (before : List StoreFile) (a b : List KeptFile) → AreKnown before a → AreKnown before b → AreKnown before (a ++ b)
+pub all_known : (before : List StoreFile) (a b : List KeptFile) → AreKnown before a → AreKnown before b → AreKnown before (a ++ b)
 all_known before [] b known more = more
 all_known before (f ∷ a) b known more = (known.0, all_known before a b known.1 more)
 
