@@ -47,8 +47,8 @@ use Rattle.device_calls.specs.Calls.{Call, host_call}
 use Rattle.device_calls.specs.HostWalks.{HostAnswered}
 use Rattle.device_calls.specs.Worlds.{Device, Seen}
 use Rattle.daemon.specs.Served.{Served}
-use Rattle.host_evidence.specs.HostHeld.{all_calls}
-use Rattle.host_evidence.proofs.Holding.{hosts_hold}
+use Rattle.device_evidence.specs.Stretches.{all_calls}
+use Rattle.device_evidence.proofs.Holding.{hosts_hold}
 use Rattle.dhcpcd.specs.HostTold.{HeldThrough}
 use Rattle.dhcpcd.specs.Sound.{BringsBytes}
 use Rattle.dhcpcd.specs.HostHeld.{lived_on, IsTurn, HoldsRightly, AllHoldRightly}

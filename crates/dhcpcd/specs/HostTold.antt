@@ -5,7 +5,7 @@ use Rattle.net_types.specs.declared.interface.IfSpec.{IfSpec}
 use Rattle.world.specs.HostCalls.{HostTold}
 use Rattle.settings.specs.declared.interfaces.Managed.{Managed}
 use Rattle.host_model.specs.HostTable.{InRowOrder}
-use Rattle.host_evidence.specs.HostHeld.{HeldInLife}
+use Rattle.device_evidence.specs.HostHeld.{HostHeldInLife}
 use Rattle.device_calls.specs.Calls.{Call}
 use Rattle.turn_model.specs.Lives.{OpeningMet, Met}
 
@@ -15,4 +15,4 @@ abbrev pub HeldThrough : List Managed → List IfSpec → OpeningMet → List Me
 HeldThrough managed specs opening mets end None new = new ≡ None
 HeldThrough managed specs opening mets end (Some first) new =
     InRowOrder first.rows
-    → (last : HostTold) × (new ≡ Some last) × HeldInLife managed specs opening mets end first last
+    → (last : HostTold) × (new ≡ Some last) × HostHeldInLife managed specs opening mets end first last

@@ -130,7 +130,7 @@ changing_went (c ∷ cs) known answers old new (rows, leaves, more) s =
 
 -- ---- the host's part of a turn
 
-pub record HostWent (managed : List Managed) (wanted : List HostRow) (result : Option (List HostRow)) (calls : List HostCall) (old new : List HostRow)
+pub record HostPart (managed : List Managed) (wanted : List HostRow) (result : Option (List HostRow)) (calls : List HostCall) (old new : List HostRow)
     : Type 0 where
   pub in_order : InRowOrder new
   pub known : KnownTruly managed result new
@@ -157,7 +157,7 @@ module _ (managed : List Managed) (wanted : List HostRow) (w : Wantable managed 
     still_known true e = subst (λ k. KnownTruly managed k new) (sym (changed.done e).1) (sym (apart_rows e))
     still_known false e = subst (λ k. KnownTruly managed k new) (sym (changed.undone e)) tt
 
-    pub known_went : HostWent managed wanted result calls old new
+    pub known_went : HostPart managed wanted result calls old new
     known_went = record {
       in_order = changed.in_order;
       known = still_known (list_all is_done calls) refl;
@@ -174,7 +174,7 @@ module _ (managed : List Managed) (wanted : List HostRow) (w : Wantable managed 
       → LeavesRows (Listed listing) old.rows rows
       → HostGoes (flat_map host_call (calls_with (hosting_listed managed wanted listing) answers)) (host_answered (Listed listing) rows old) new
       → InRowOrder old.rows
-      → HostWent managed wanted (result_with (hosting_listed managed wanted listing) answers)
+      → HostPart managed wanted (result_with (hosting_listed managed wanted listing) answers)
       (Listed listing ∷ flat_map host_call (calls_with (hosting_listed managed wanted listing) answers)) old.rows new.rows
   listed_went None answers old new rows leaves more s =
       let same : new.rows ≡ old.rows = ap (λ (t : HostTold). t.rows) more ∙ leaves in
@@ -203,7 +203,7 @@ module _ (managed : List Managed) (wanted : List HostRow) (w : Wantable managed 
 
   pub hosting_went : (known : Option (List HostRow)) (answers : Answers (hosting managed wanted known)) (old new : HostTold)
       → HostGoes (flat_map host_call (calls_with (hosting managed wanted known) answers)) old new → InRowOrder old.rows → KnownTruly managed known old.rows
-      → HostWent managed wanted (result_with (hosting managed wanted known) answers)
+      → HostPart managed wanted (result_with (hosting managed wanted known) answers)
       (flat_map host_call (calls_with (hosting managed wanted known) answers)) old.rows new.rows
   hosting_went (Some known) answers old new goes s truly =
       known_went known (result_with (changing (changes known wanted) (Some known)) answers)

@@ -1,3 +1,5 @@
 pub mod Changing
 pub mod Parts
+pub mod LifeParts
+pub mod HostSteps
 pub mod Holding

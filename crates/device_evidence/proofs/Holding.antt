@@ -15,7 +15,7 @@ use Rattle.settings.specs.ManagedRows.{SharesAreManaged, is_managed}
 use Rattle.host_model.specs.HostTable.{InRowOrder, managed_rows, other_rows, is_done}
 use Rattle.host_model.proofs.HostTableRows.{has_filter}
 use Rattle.client_model.specs.Clients.{rows_of}
-use Rattle.device_calls.specs.Calls.{Call}
+use Rattle.device_calls.specs.Calls.{Call, host_call}
 use Rattle.device_calls.specs.HostWalks.{HostGoes}
 use Rattle.device_calls.proofs.HostWalking.{HostSplit, host_goes_more, host_goes_split}
 use Rattle.turn_model.specs.FilesInLife.{AreNamedApart}
@@ -27,41 +27,28 @@ use Rattle.evidence.proofs.Based.{have_basis}
 use Rattle.evidence.proofs.Items.{items_have_basis}
 use Rattle.evidence.proofs.Leasing.{leases_based}
 use Rattle.evidence.proofs.LeaseEvidence.Joining.{LeaseRelation}
-use Rattle.host_evidence.specs.HostHeld.{Went, NoneFailed, Stretch, HeldAfter, HeldInLife, all_calls, HostsHold}
-use Rattle.host_evidence.proofs.Parts.{host_part, host_parts, Standing, StepWent, turn_went, opening_went}
+use Rattle.device_evidence.specs.Stretches.{Stretch, all_calls, at_opening, at_turn}
+use Rattle.device_evidence.specs.HostHeld.{HostWent, NoneFailed, HostHeld, HostHeldInLife, HostsHold}
+use Rattle.device_evidence.proofs.Parts.{parts_of}
+use Rattle.device_evidence.proofs.LifeParts.{calls_apart, turns_first, turns_later, at_turn_calls}
+use Rattle.device_evidence.proofs.HostSteps.{host_part, Standing, StepWent, turn_went, opening_went}
 
 -- ---- calls in parts
 
 -- what the host told between some calls and more
 pub record WentBoth (a b : List Call) (old new : HostTold) : Type 0 where
   pub mid : HostTold
-  pub first : Went a old mid
-  pub later : Went b mid new
+  pub first : HostWent a old mid
+  pub later : HostWent b mid new
 
-went_both : (a b : List Call) (old new : HostTold) → Went (a ++ b) old new → WentBoth a b old new
+went_both : (a b : List Call) (old new : HostTold) → HostWent (a ++ b) old new → WentBoth a b old new
 went_both a b old new goes =
-    let parts = host_goes_split (host_part a) (host_part b) old new (subst (λ (cs : List HostCall). HostGoes cs old new) (host_parts a b) goes) in
+    let parts = host_goes_split (host_part a) (host_part b) old new (subst (λ (cs : List HostCall). HostGoes cs old new) (parts_of host_call a b) goes) in
     record { mid = parts.mid; first = parts.first; later = parts.then }
 
-went_more : (a b : List Call) (old mid new : HostTold) → Went a old mid → Went b mid new → Went (a ++ b) old new
+went_more : (a b : List Call) (old mid new : HostTold) → HostWent a old mid → HostWent b mid new → HostWent (a ++ b) old new
 went_more a b old mid new p q =
-    subst (λ (cs : List HostCall). HostGoes cs old new) (sym (host_parts a b)) (host_goes_more (host_part a) (host_part b) old mid new p q)
-
-calls_apart : (from : Life) (earlier later : List Met)
-    → turns_calls from (earlier ++ later) ≡ turns_calls from earlier ++ turns_calls (life_after from earlier) later
-calls_apart from [] later = refl
-calls_apart from (met ∷ earlier) later =
-    ap (λ cs. turn_calls from met ++ cs) (calls_apart met.life earlier later)
-    ∙ sym (append_assoc (turn_calls from met) (turns_calls met.life earlier) (turns_calls (life_after met.life earlier) later))
-
-turns_first : (managed : List Managed) (from : Life) (earlier later : List Met) → AreTurns managed from (earlier ++ later) → AreTurns managed from earlier
-turns_first managed from [] later turns = tt
-turns_first managed from (met ∷ earlier) later turns = (turns.0, turns_first managed met.life earlier later turns.1)
-
-turns_later : (managed : List Managed) (from : Life) (earlier later : List Met) → AreTurns managed from (earlier ++ later)
-    → AreTurns managed (life_after from earlier) later
-turns_later managed from [] later turns = turns
-turns_later managed from (met ∷ earlier) later turns = turns_later managed met.life earlier later turns.1
+    subst (λ (cs : List HostCall). HostGoes cs old new) (sym (parts_of host_call a b)) (host_goes_more (host_part a) (host_part b) old mid new p q)
 
 are_made : (managed : List Managed) (from : Life) (mets : List Met) → AreTurns managed from mets → AreMade managed from mets
 are_made managed from [] turns = tt
@@ -96,7 +83,7 @@ module _ (managed : List Managed) (specs : List IfSpec) (fit : AreManaged manage
     pub apart : other_rows managed new.rows ≡ other_rows managed old.rows
 
   turns_went : (from : Life) (mets : List Met) (old new : HostTold) → AreTurns managed from mets → Standing managed from old
-      → Went (turns_calls from mets) old new → TurnsWent (life_after from mets) old new
+      → HostWent (turns_calls from mets) old new → TurnsWent (life_after from mets) old new
   turns_went from [] old new turns standing goes = record {
     standing = subst (λ (told : HostTold). Standing managed from told) (sym goes) standing;
     apart = ap (λ (told : HostTold). other_rows managed told.rows) goes;
@@ -110,15 +97,15 @@ module _ (managed : List Managed) (specs : List IfSpec) (fit : AreManaged manage
   -- ---- a life
 
   module _ (opening : OpeningMet) (mets : List Met) (end : List Call) (first last : HostTold) (opens : IsOpening managed specs opening)
-      (turns : AreTurns managed opening.life mets) (s : InRowOrder first.rows) (goes : Went (all_calls opening mets end) first last) where
+      (turns : AreTurns managed opening.life mets) (s : InRowOrder first.rows) (goes : HostWent (all_calls opening mets end) first last) where
     begun : WentBoth opening.calls (turns_calls opening.life mets ++ end) first last
     begun = went_both opening.calls (turns_calls opening.life mets ++ end) first last goes
 
     opened : StepWent managed opening.life (host_part opening.calls) first begun.mid
     opened = opening_went managed shares specs opening.begin opening.calls opening.life first begun.mid opens s begun.first
 
-    held_opened : HeldAfter managed specs opening [] opening.life
-        (record { before = []; own = opening.calls; later = turns_calls opening.life mets ++ end }) first last
+    held_opened : HostHeld managed specs opening [] opening.life
+        (at_opening opening mets end) first last
     held_opened = record {
       told = begun.mid;
       went = begun.first;
@@ -133,27 +120,14 @@ module _ (managed : List Managed) (specs : List IfSpec) (fit : AreManaged manage
       all_turns : AreTurns managed opening.life (earlier ++ met ∷ later)
       all_turns = subst (AreTurns managed opening.life) split turns
 
-      from : Life
-      from = life_after opening.life earlier
-
       own_turns : AreTurns managed (life_after opening.life earlier) (met ∷ later)
       own_turns = turns_later managed opening.life earlier (met ∷ later) all_turns
-
-      calls_are : turns_calls opening.life mets ++ end
-          ≡ turns_calls opening.life earlier ++ (turn_calls (life_after opening.life earlier) met ++ (turns_calls met.life later ++ end))
-      calls_are =
-          let own = turn_calls (life_after opening.life earlier) met in
-          let after = turns_calls met.life later in
-          ap (λ ms. turns_calls opening.life ms ++ end) split
-          ∙ ap (λ cs. cs ++ end) (calls_apart opening.life earlier (met ∷ later))
-          ∙ append_assoc (turns_calls opening.life earlier) (own ++ after) end
-          ∙ ap (λ cs. turns_calls opening.life earlier ++ cs) (append_assoc own after end)
 
       before : WentBoth (turns_calls opening.life earlier) (turn_calls (life_after opening.life earlier) met ++ (turns_calls met.life later ++ end))
           begun.mid last
       before =
           went_both (turns_calls opening.life earlier) (turn_calls (life_after opening.life earlier) met ++ (turns_calls met.life later ++ end)) begun.mid last
-          (subst (λ (cs : List Call). Went cs begun.mid last) calls_are begun.later)
+          (subst (λ (cs : List Call). HostWent cs begun.mid last) (at_turn_calls opening.life mets earlier met later end split) begun.later)
 
       own : WentBoth (turn_calls (life_after opening.life earlier) met) (turns_calls met.life later ++ end) before.mid last
       own = went_both (turn_calls (life_after opening.life earlier) met) (turns_calls met.life later ++ end) before.mid last before.later
@@ -173,12 +147,8 @@ module _ (managed : List Managed) (specs : List IfSpec) (fit : AreManaged manage
           (turns_first managed opening.life (earlier ++ met ∷ []) later
           (subst (AreTurns managed opening.life) (sym (append_assoc earlier (met ∷ []) later)) all_turns))
 
-      held_turned : HeldAfter managed specs opening (earlier ++ met ∷ []) met.life
-          (record {
-            before = opening.calls ++ turns_calls opening.life earlier;
-            own = turn_calls (life_after opening.life earlier) met;
-            later = turns_calls met.life later ++ end;
-          })
+      held_turned : HostHeld managed specs opening (earlier ++ met ∷ []) met.life
+          (at_turn opening earlier met later end)
           first last
       held_turned =
           let calls = turn_calls (life_after opening.life earlier) met in
@@ -196,7 +166,7 @@ module _ (managed : List Managed) (specs : List IfSpec) (fit : AreManaged manage
                 octets;
           }
 
-    pub held : HeldInLife managed specs opening mets end first last
+    pub held : HostHeldInLife managed specs opening mets end first last
     held = record { opened = held_opened; turned = held_turned }
 
 pub hosts_hold : HostsHold

@@ -13,56 +13,41 @@ use Rattle.device_calls.specs.Calls.{Call, host_call}
 use Rattle.device_calls.specs.HostWalks.{HostGoes}
 use Rattle.turn_model.specs.FilesInLife.{AreNamedApart}
 use Rattle.turn_model.specs.Turns.{Life}
-use Rattle.turn_model.specs.Lives.{OpeningMet, IsOpening, Met, AreTurns, life_after, turn_calls, turns_calls}
+use Rattle.turn_model.specs.Lives.{OpeningMet, IsOpening, Met, AreTurns}
 use Rattle.evidence.specs.Laws.{AreNumbered, AreOctets, AreSharedWithOthers}
 use Rattle.evidence.specs.HeldAddresses.{RestOnEvidence}
+use Rattle.device_evidence.specs.Stretches.{Stretch, all_calls, at_opening, at_turn}
 
 -- what the host told before and after some calls, which it answered truly
-abbrev pub Went : List Call → (old new : HostTold) → Type 0
-Went calls old new = HostGoes (flat_map host_call calls) old new
+abbrev pub HostWent : List Call → (old new : HostTold) → Type 0
+HostWent calls old new = HostGoes (flat_map host_call calls) old new
 
 -- no call of the host failed among these
 abbrev pub NoneFailed : List Call → Type 0
 NoneFailed calls = AllPass is_done (flat_map host_call calls)
 
--- the calls of a life: those made before an opening or a turn, its own, and those made after it
-pub record Stretch : Type 0 where
-  pub before : List Call
-  pub own : List Call
-  pub later : List Call
-
 -- What the host held at the end of an opening or a turn, of a life that then had met these turns. `first` is what it
 -- told when the life began, `last` what it told in the end.
-pub record HeldAfter (managed : List Managed) (specs : List IfSpec) (opening : OpeningMet) (mets : List Met)
+pub record HostHeld (managed : List Managed) (specs : List IfSpec) (opening : OpeningMet) (mets : List Met)
     (life : Life) (calls : Stretch) (first last : HostTold) : Type 0 where
   pub told : HostTold
-  pub went : Went (calls.before ++ calls.own) first told
-  pub goes_on : Went calls.later told last
+  pub went : HostWent (calls.before ++ calls.own) first told
+  pub goes_on : HostWent calls.later told last
   pub others : other_rows managed told.rows ≡ other_rows managed first.rows
   pub wanted : NoneFailed calls.own → managed_rows managed told.rows ≡ rows_of life.client
   pub rests : NoneFailed calls.own → AreOctets mets → RestOnEvidence managed specs opening mets told.rows
 
--- in a life that made these calls after its turns
-pub record HeldInLife (managed : List Managed) (specs : List IfSpec) (opening : OpeningMet) (mets : List Met)
+-- after the opening, and after each turn
+pub record HostHeldInLife (managed : List Managed) (specs : List IfSpec) (opening : OpeningMet) (mets : List Met)
     (end : List Call) (first last : HostTold) : Type 0 where
-  pub opened : HeldAfter managed specs opening [] opening.life
-      (record { before = []; own = opening.calls; later = turns_calls opening.life mets ++ end }) first last
+  pub opened : HostHeld managed specs opening [] opening.life (at_opening opening mets end) first last
   pub turned : (earlier : List Met) (met : Met) (later : List Met) → mets ≡ earlier ++ met ∷ later
-      → HeldAfter managed specs opening (earlier ++ met ∷ []) met.life
-      (record {
-        before = opening.calls ++ turns_calls opening.life earlier;
-        own = turn_calls (life_after opening.life earlier) met;
-        later = turns_calls met.life later ++ end;
-      }) first last
-
--- the calls of a whole life
-abbrev pub all_calls : OpeningMet → List Met → (end : List Call) → List Call
-all_calls opening mets end = opening.calls ++ (turns_calls opening.life mets ++ end)
+      → HostHeld managed specs opening (earlier ++ met ∷ []) met.life (at_turn opening earlier met later end) first last
 
 abbrev pub HostsHold : Type 0
 HostsHold =
     (managed : List Managed) (specs : List IfSpec) (opening : OpeningMet) (mets : List Met) (end : List Call)
     (first last : HostTold) → AreManaged managed → SharesAreManaged managed → AreSharedWithOthers managed
     → AreNumbered managed → AreNamedApart managed → IsOpening managed specs opening
-    → AreTurns managed opening.life mets → InRowOrder first.rows → Went (all_calls opening mets end) first last
-    → HeldInLife managed specs opening mets end first last
+    → AreTurns managed opening.life mets → InRowOrder first.rows → HostWent (all_calls opening mets end) first last
+    → HostHeldInLife managed specs opening mets end first last
