@@ -3,3 +3,7 @@ pub mod Parts
 pub mod LifeParts
 pub mod HostSteps
 pub mod Holding
+pub mod FilesGoing
+pub mod Bringing
+pub mod FileReading
+pub mod Filing
