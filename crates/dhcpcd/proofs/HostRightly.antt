@@ -1,6 +1,6 @@
 -- The host holds what it shall, in one life and in those of a script.
 use Rattle.net_types.specs.declared.interface.IfSpec.{IfSpec}
-use Rattle.std.proofs.Common.{ℕ, suc, Ok, Option, Some, None, ◌≡◌, ◌+◌, ◌<◌, List, [], ◌∷◌, ◌++◌, length, take, refl, sym, ap, subst, ◌∙◌, arith}
+use Rattle.std.proofs.Common.{ℕ, suc, Ok, ◌≡◌, ◌+◌, ◌<◌, List, [], ◌∷◌, ◌++◌, length, take, refl, sym, ap, subst, ◌∙◌, arith}
 use Rattle.std.specs.List.{AllByRecursion}
 use Rattle.std.proofs.lemmas.List.Elements.{recursion_from_All}
 use Rattle.net_types.proofs.AllLaws.{all_map}
@@ -15,7 +15,7 @@ use Rattle.world.specs.LinkCalls.{Given}
 use Rattle.settings.specs.declared.interfaces.Managed.{Managed}
 use Rattle.script_model.specs.ScriptTexts.{ScriptLines, LifeScript}
 use Rattle.script_model.specs.Scripts.{FitInterfaces, FitsScript, FitsBytes, FitsGiven, FitsLife}
-use Rattle.turn_model.specs.Lives.{OpeningMet, IsOpening, Met, AreTurns}
+use Rattle.turn_model.specs.Lives.{Met}
 use Rattle.device_calls.specs.Worlds.{World}
 use Rattle.device_calls.proofs.Running.{run_coming, run_makes}
 use Rattle.turn_model.specs.Opening.{opening_asks}
@@ -41,15 +41,6 @@ use Rattle.dhcpcd.proofs.LifeLeft.{left_in_order}
 use Rattle.dhcpcd.proofs.ManagedApart.{managed_numbered}
 use Rattle.dhcpcd.proofs.SharesApart.{shared_with_others}
 use Rattle.dhcpcd.proofs.Refusals.{spelled_fits, in_force, ifaces_fit}
-use Rattle.std.specs.Prelude.{flat_map}
-use Rattle.world.specs.HostCalls.{HostTold}
-use Rattle.device_calls.specs.Calls.{Call, host_call}
-use Rattle.device_calls.specs.HostWalks.{HostAnswered}
-use Rattle.device_calls.specs.Worlds.{Device, Seen}
-use Rattle.daemon.specs.Served.{Served}
-use Rattle.device_evidence.specs.Stretches.{all_calls}
-use Rattle.device_evidence.proofs.Holding.{hosts_hold}
-use Rattle.dhcpcd.specs.HostTold.{HeldThrough}
 use Rattle.dhcpcd.specs.Sound.{BringsBytes}
 use Rattle.dhcpcd.specs.HostHeld.{lived_on, IsTurn, HoldsRightly, AllHoldRightly}
 
@@ -105,23 +96,6 @@ module _ (text : List ℕ) (conf : Configuration) (is : IsConfOf text (Ok conf))
 
   pub shares : SharesAreManaged managed
   shares = let all = in_force text conf is specs fits in all.shares
-
-  -- ---- a life over a host that tells its rows, whatever is answered
-
-  held_so : (opening : OpeningMet) (mets : List Met) (end : List Call) (old new : Option HostTold) → IsOpening managed specs opening
-      → AreTurns managed opening.life mets → HostAnswered (flat_map host_call (all_calls opening mets end)) old new
-      → HeldThrough managed specs opening mets end old new
-  held_so opening mets end None new opens turns answered = answered
-  held_so opening mets end (Some first) new opens turns (last, is, goes) =
-      λ sorted. (last, is, hosts_hold managed specs opening mets end first last fit shares others numbered named opens turns sorted goes)
-
-  pub life_held : (allowed : ℕ) (old new : Seen) (out_from out_to : Option (List ℕ)) (served : Served allowed managed specs old new out_from out_to)
-      → HeldThrough managed specs served.opening served.mets served.last old.host.told new.host.told
-  life_held allowed old new out_from out_to served =
-      held_so served.opening served.mets served.last old.host.told new.host.told served.opens served.turns
-      (subst
-      (λ (h : Device HostTold (List ℕ)). HostAnswered (flat_map host_call (all_calls served.opening served.mets served.last)) h.told new.host.told)
-      served.begun.begins.only.host served.tells.table)
 
   module _ (world : World) (sorted : InRowOrder world.host.told.rows) (octets : AllByRecursion BringsBytes world.link.told.coming) where
     abbrev begun : Running

@@ -20,6 +20,7 @@ pub mod Forgetting
 pub mod HostRightly
 pub mod FilesRightly
 pub mod FilesWhole
+pub mod LivesHeld
 pub mod SafelyTold
 pub mod Replayed
 pub mod LiveAnswers

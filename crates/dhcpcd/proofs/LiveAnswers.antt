@@ -25,7 +25,8 @@ use Rattle.dhcpcd.proofs.Endings.{configured, not_too_long}
 use Rattle.daemon.proofs.FileEvidence.StoreRuns.{foretold_whole}
 use Rattle.daemon.proofs.SafeTexts.PlainConfigurations.{configured_texts_are_safe}
 use Rattle.dhcpcd.proofs.FilesRightly.{life_keeps}
-use Rattle.dhcpcd.proofs.HostRightly.{life_holds, life_held}
+use Rattle.dhcpcd.proofs.HostRightly.{life_holds}
+use Rattle.dhcpcd.proofs.LivesHeld.{host_held, files_held}
 use Rattle.dhcpcd.proofs.SafelyTold.{life_tells}
 use Rattle.dhcpcd.proofs.Refusals.{in_force}
 
@@ -72,7 +73,8 @@ served_whole ask out middle out_to seen seen_to is fits head served files = reco
   head = head;
   served = served;
   files = files;
-  held = life_held ask.text ask.conf is ask.specs fits ask.turns seen seen_to middle out_to served;
+  host = host_held ask.text ask.conf is ask.specs fits ask.turns seen seen_to middle out_to served;
+  kept = files_held ask.text ask.conf is ask.specs fits ask.turns seen seen_to middle out_to served;
 }
 
 pub cut_off : (end : ServeEnd) (ask : Asked) (out middle out_to : Option (List ℕ)) (seen seen_to : Seen) → WritesLines out middle (head_of ask)

@@ -5,7 +5,7 @@ pub mod HooksApart
 pub mod Carried
 pub mod Sound
 pub mod HostHeld
-pub mod HostTold
+pub mod HeldThrough
 pub mod FilesHeld
 pub mod ToldSafely
 pub mod Refusals

@@ -26,7 +26,7 @@ use Rattle.dhcpcd.specs.Refusals.{IsRefusal}
 use Rattle.dhcpcd.specs.Replays.{heading}
 use Rattle.dhcpcd.specs.Sound.{IsSound}
 use Rattle.dhcpcd.specs.HostHeld.{HoldsRightly}
-use Rattle.dhcpcd.specs.HostTold.{HeldThrough}
+use Rattle.dhcpcd.specs.HeldThrough.{HostHeldThrough, FilesHeldThrough}
 use Rattle.dhcpcd.specs.FilesHeld.{KeepsRightly}
 use Rattle.dhcpcd.specs.ToldSafely.{TellsSafely}
 
@@ -80,14 +80,17 @@ abbrev pub head_of : Asked → List Line
 head_of ask = live_head ask.text ask.conf.notices ask.specs
 
 -- The head was written, and then the life was lived to its end and its lines written. At each moment its files were
--- whole. A host that tells its rows held what it shall after the opening and after each turn.
+-- whole. A host that tells its rows, and a store that tells its files, held what they shall after the opening and after
+-- each turn.
 pub record IsServed (ask : Asked) (told : Around) : Type 0 where
   pub middle : Option (List ℕ)
   pub head : WritesLines told.out_from middle (head_of ask)
   pub served : Served ask.turns (managed_of ask.conf ask.specs) ask.specs told.seen_from told.seen_to middle told.out_to
   pub files : LeavesFiled (managed_of ask.conf ask.specs) ask.specs told.seen_from told.seen_to
-  pub held : HeldThrough (managed_of ask.conf ask.specs) ask.specs served.opening served.mets served.last
+  pub host : HostHeldThrough (managed_of ask.conf ask.specs) ask.specs served.opening served.mets served.last
       told.seen_from.host.told told.seen_to.host.told
+  pub kept : FilesHeldThrough (managed_of ask.conf ask.specs) served.opening served.mets served.last
+      told.seen_from.store.failing told.seen_from.store.told told.seen_to.store.told
 
 -- the head was written, and then the life was cut off; up to then its files were whole
 pub record IsCutOff (end : ServeEnd) (ask : Asked) (told : Around) : Type 0 where
