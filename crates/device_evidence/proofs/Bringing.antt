@@ -1,13 +1,13 @@
 -- What the files' part of a turn makes of the files of a store, whatever is answered.
-use Rattle.std.proofs.Common.{◌≡◌, ◌⊎◌, inl, inr, ℕ, Bool, true, false, ◌&&◌, List, [], ◌∷◌, ◌++◌, Option, Some, None, refl, sym, ap, ap₂, subst, ◌∙◌, append-nil}
-use Rattle.std.specs.Prelude.{flat_map, if◌then◌else◌}
+use Rattle.std.proofs.Common.{◌≡◌, inl, ℕ, Bool, true, false, List, [], ◌∷◌, ◌++◌, Option, Some, None, refl, sym, ap, ap₂, subst, ◌∙◌, append-nil}
+use Rattle.std.specs.Prelude.{if◌then◌else◌}
 use Rattle.std.specs.List.{AllByRecursion, list_all}
 use Rattle.std.proofs.lemmas.Bool.{false≢true, and_parts}
 use Rattle.world.specs.FileLists.{StoreFile, file_name, file_at, rename_file}
 use Rattle.world.specs.FileNames.{aside_of}
 use Rattle.world.specs.NamedLists.{InNameOrder}
 use Rattle.world.specs.SoundStores.{LeavesFiles}
-use Rattle.world.specs.StoreCalls.{StoreCall, WroteAside, SyncedAside, RenamedAside, RemovedFile, SettledFiles}
+use Rattle.world.specs.StoreCalls.{StoreCall, WroteAside, SyncedAside, RenamedAside, RemovedFile}
 use Rattle.world.proofs.NameOrder.{name_itself, put_found, drop_gone}
 use Rattle.client_model.specs.declared.interfaces.Iface.{Iface}
 use Rattle.device_calls.specs.Calls.{Call, SyncAside, RenameAside, Settle, store_call}

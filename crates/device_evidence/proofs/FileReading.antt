@@ -17,7 +17,7 @@ use Rattle.turn_model.specs.Loading.{duid_file, resolver_file, lease4_file, leas
 use Rattle.turn_model.specs.FilesInLife.{KnownTruly, Filed, filed_as, filed_if, filed_for, filed_by}
 use Rattle.turn_model.proofs.Keeping.{all_filed, AreKnown}
 use Rattle.turn_model.proofs.Reading.{all_known}
-use Rattle.device_evidence.proofs.FilesGoing.{IsTrue, FilesGo, FilesSplit, files_split, was_read}
+use Rattle.device_evidence.proofs.FilesGoing.{FilesGo, FilesSplit, files_split, was_read}
 use Rattle.device_evidence.proofs.Bringing.{store_part}
 use Rattle.device_evidence.proofs.Parts.{parts_of}
 

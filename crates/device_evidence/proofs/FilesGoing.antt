@@ -85,7 +85,9 @@ pub goes_more : (failing : Option StoreFails) (a b : List StoreCall) (old mid ne
     → Goes failing (a ++ b) old new
 goes_more failing [] b old mid new p q = subst (λ (m : StoreTold). Goes failing b m new) p q
 goes_more failing (call ∷ a) b old mid new (files, answered, p) q = (
-  files, answered, goes_more failing a b (store_answered call files old) mid new p q
+  files,
+  answered,
+  goes_more failing a b (store_answered call files old) mid new p q,
 )
 
 -- ---- one call

@@ -28,7 +28,7 @@ use Rattle.turn_model.proofs.FileNames.{AreApart, are_apart}
 use Rattle.turn_model.proofs.Keeping.{all_filed, AreKnown, IsKept}
 use Rattle.device_evidence.specs.Stretches.{all_calls, at_opening, at_turn}
 use Rattle.device_evidence.specs.FilesHeld.{StoreWent, FilesHeld, FilesHeldInLife, StoresHold}
-use Rattle.device_evidence.proofs.Parts.{part, parts_of, Quiet, none_made, first_quiet, StepMade, step_made, turn_parts, opened_step, opening_parts}
+use Rattle.device_evidence.proofs.Parts.{parts_of, Quiet, none_made, first_quiet, StepMade, step_made, turn_parts, opened_step, opening_parts}
 use Rattle.device_evidence.proofs.LifeParts.{turns_first, turns_later, at_turn_calls}
 use Rattle.device_evidence.proofs.FilesGoing.{FilesGo, files_go, files_split, goes_split, goes_more, all_in_order}
 use Rattle.device_evidence.proofs.Bringing.{store_part, AllKept, all_kept}

@@ -1,9 +1,7 @@
 -- A host over a whole life.
 use Rattle.std.proofs.Common.{◌≡◌, Bool, true, false, ◌&&◌, List, [], ◌∷◌, ◌++◌, refl, sym, ap, subst, ◌∙◌, append_assoc}
-use Rattle.std.specs.List.{AllPass, list_all}
+use Rattle.std.specs.List.{list_all}
 use Rattle.std.proofs.lemmas.List.Sums.{list_all-from_AllPass}
-use Rattle.net_types.specs.declared.address.Net.{Net}
-use Rattle.net_types.specs.declared.interface.IfIndex.{IfIndex}
 use Rattle.net_types.specs.declared.interface.IfSpec.{IfSpec}
 use Rattle.world.specs.declared.rows.HostRow.{HostRow}
 use Rattle.world.specs.declared.rows.HostRow.TheVariants.{Addr}
@@ -17,7 +15,7 @@ use Rattle.host_model.proofs.HostTableRows.{has_filter}
 use Rattle.client_model.specs.Clients.{rows_of}
 use Rattle.device_calls.specs.Calls.{Call, host_call}
 use Rattle.device_calls.specs.HostWalks.{HostGoes}
-use Rattle.device_calls.proofs.HostWalking.{HostSplit, host_goes_more, host_goes_split}
+use Rattle.device_calls.proofs.HostWalking.{host_goes_more, host_goes_split}
 use Rattle.turn_model.specs.FilesInLife.{AreNamedApart}
 use Rattle.turn_model.specs.Turns.{Life}
 use Rattle.turn_model.specs.Lives.{OpeningMet, IsOpening, Met, AreTurns, life_after, turn_calls, turns_calls}
@@ -27,10 +25,10 @@ use Rattle.evidence.proofs.Based.{have_basis}
 use Rattle.evidence.proofs.Items.{items_have_basis}
 use Rattle.evidence.proofs.Leasing.{leases_based}
 use Rattle.evidence.proofs.LeaseEvidence.Joining.{LeaseRelation}
-use Rattle.device_evidence.specs.Stretches.{Stretch, all_calls, at_opening, at_turn}
+use Rattle.device_evidence.specs.Stretches.{all_calls, at_opening, at_turn}
 use Rattle.device_evidence.specs.HostHeld.{HostWent, NoneFailed, HostHeld, HostHeldInLife, HostsHold}
 use Rattle.device_evidence.proofs.Parts.{parts_of}
-use Rattle.device_evidence.proofs.LifeParts.{calls_apart, turns_first, turns_later, at_turn_calls}
+use Rattle.device_evidence.proofs.LifeParts.{turns_first, turns_later, at_turn_calls}
 use Rattle.device_evidence.proofs.HostSteps.{host_part, Standing, StepWent, turn_went, opening_went}
 
 -- ---- calls in parts

@@ -1,5 +1,5 @@
 -- What an opening and a turn make of a host that tells its rows.
-use Rattle.std.proofs.Common.{◌≡◌, ℕ, true, List, [], ◌∷◌, ◌++◌, Option, None, refl, sym, ap, subst, ◌∙◌}
+use Rattle.std.proofs.Common.{◌≡◌, ℕ, true, List, ◌++◌, Option, None, refl, sym, ap, subst, ◌∙◌}
 use Rattle.std.specs.List.{list_all}
 use Rattle.net_types.specs.declared.interface.IfSpec.{IfSpec}
 use Rattle.machine.specs.Moment.{moment_of}
@@ -25,7 +25,7 @@ use Rattle.turn_model.specs.Turns.{Life, Outlook, offering, hosting, turn_moment
 use Rattle.turn_model.proofs.Asking.{LinkAsks, StoreAsks, HookAsks, offering_only, clearing_only, files_only, keeping_only, polling_only, hooking_only}
 use Rattle.turn_model.proofs.HostInLifeTurns.{opening_managed}
 use Rattle.device_evidence.proofs.Changing.{HostPart, hosting_went}
-use Rattle.device_evidence.proofs.Parts.{part, Quiet, none_made, first_quiet, then_quiet, StepMade, step_made, turn_step, turn_parts, opened_step, opening_parts}
+use Rattle.device_evidence.proofs.Parts.{part, Quiet, none_made, first_quiet, then_quiet, StepMade, step_made, turn_parts, opened_step, opening_parts}
 
 abbrev pub host_part : List Call → List HostCall
 host_part = part host_call

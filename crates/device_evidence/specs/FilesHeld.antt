@@ -1,6 +1,6 @@
 -- What a store that tells its files holds in a life, whatever its calls are answered, and whether or not it is told
 -- which of them fail.
-use Rattle.std.specs.Prelude.{ℕ, ◌≡◌, ◌⊎◌, true, List, [], ◌∷◌, ◌++◌, map, flat_map, Option}
+use Rattle.std.specs.Prelude.{ℕ, ◌≡◌, ◌⊎◌, true, List, ◌∷◌, ◌++◌, map, flat_map, Option}
 use Rattle.std.specs.List.{AllByRecursion}
 use Rattle.net_types.specs.declared.interface.IfSpec.{IfSpec}
 use Rattle.world.specs.FileLists.{StoreFile, file_name, file_at}
