@@ -26,7 +26,7 @@ use Rattle.daemon.proofs.FileEvidence.StoreRuns.{foretold_whole}
 use Rattle.daemon.proofs.SafeTexts.PlainConfigurations.{configured_texts_are_safe}
 use Rattle.dhcpcd.proofs.FilesRightly.{life_keeps}
 use Rattle.dhcpcd.proofs.HostRightly.{life_holds}
-use Rattle.dhcpcd.proofs.LivesHeld.{host_held, files_held}
+use Rattle.dhcpcd.proofs.LivesHeld.{host_held, files_held, held_until_cut}
 use Rattle.dhcpcd.proofs.SafelyTold.{life_tells}
 use Rattle.dhcpcd.proofs.Refusals.{in_force}
 
@@ -77,17 +77,25 @@ served_whole ask out middle out_to seen seen_to is fits head served files = reco
   kept = files_held ask.text ask.conf is ask.specs fits ask.turns seen seen_to middle out_to served;
 }
 
-pub cut_off : (end : ServeEnd) (ask : Asked) (out middle out_to : Option (List ℕ)) (seen seen_to : Seen) → WritesLines out middle (head_of ask)
+pub cut_off : (end : ServeEnd) (ask : Asked) (out middle out_to : Option (List ℕ)) (seen seen_to : Seen) → IsConfOf ask.text (Ok ask.conf)
+    → FitInterfaces ask.specs → WritesLines out middle (head_of ask)
     → Leaves end ask.turns (managed_of ask.conf ask.specs) ask.specs seen seen_to middle out_to
     → LeavesFiled (managed_of ask.conf ask.specs) ask.specs seen seen_to
     → IsCutOff end ask (around out out_to seen seen_to)
-cut_off end ask out middle out_to seen seen_to head left files = record { middle = middle; head = head; left = left; files = files }
+cut_off end ask out middle out_to seen seen_to is fits head left files = record {
+  middle = middle;
+  head = head;
+  left = left;
+  files = files;
+  held = held_until_cut ask.text ask.conf is ask.specs fits ask.turns seen seen_to middle out_to end left;
+}
 
-pub out_of_memory : (ask : Asked) (out middle out_to : Option (List ℕ)) (seen seen_to : Seen) → WritesLines out middle (head_of ask)
+pub out_of_memory : (ask : Asked) (out middle out_to : Option (List ℕ)) (seen seen_to : Seen) → IsConfOf ask.text (Ok ask.conf) → FitInterfaces ask.specs
+    → WritesLines out middle (head_of ask)
     → Leaves ends.NoMemory ask.turns (managed_of ask.conf ask.specs) ask.specs seen seen_to middle out_to
     → LeavesFiled (managed_of ask.conf ask.specs) ask.specs seen seen_to → IsLifeAnswer status.NoMemory ask (around out out_to seen seen_to)
-out_of_memory ask out middle out_to seen seen_to head left files =
-    inr (cut_off ends.NoMemory ask out middle out_to seen seen_to head left files)
+out_of_memory ask out middle out_to seen seen_to is fits head left files =
+    inr (cut_off ends.NoMemory ask out middle out_to seen seen_to is fits head left files)
 
 -- ---- the answers
 

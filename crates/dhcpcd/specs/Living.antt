@@ -26,7 +26,7 @@ use Rattle.dhcpcd.specs.Refusals.{IsRefusal}
 use Rattle.dhcpcd.specs.Replays.{heading}
 use Rattle.dhcpcd.specs.Sound.{IsSound}
 use Rattle.dhcpcd.specs.HostHeld.{HoldsRightly}
-use Rattle.dhcpcd.specs.HeldThrough.{HostHeldThrough, FilesHeldThrough}
+use Rattle.dhcpcd.specs.HeldThrough.{HostHeldThrough, FilesHeldThrough, HeldUntilCut}
 use Rattle.dhcpcd.specs.FilesHeld.{KeepsRightly}
 use Rattle.dhcpcd.specs.ToldSafely.{TellsSafely}
 
@@ -92,13 +92,16 @@ pub record IsServed (ask : Asked) (told : Around) : Type 0 where
   pub kept : FilesHeldThrough (managed_of ask.conf ask.specs) served.opening served.mets served.last
       told.seen_from.store.failing told.seen_from.store.told told.seen_to.store.told
 
--- the head was written, and then the life was cut off; up to then its files were whole
+-- The head was written, and then the life was cut off. Up to then its files were whole, and host and store held what
+-- they shall.
 pub record IsCutOff (end : ServeEnd) (ask : Asked) (told : Around) : Type 0 where
   pub middle : Option (List ℕ)
   pub head : WritesLines told.out_from middle (head_of ask)
   pub left : Leaves end ask.turns
       (managed_of ask.conf ask.specs) ask.specs told.seen_from told.seen_to middle told.out_to
   pub files : LeavesFiled (managed_of ask.conf ask.specs) ask.specs told.seen_from told.seen_to
+  pub held : HeldUntilCut ask.turns (managed_of ask.conf ask.specs) ask.specs told.seen_from told.seen_to middle
+      told.out_to end left
 
 -- a front of the head was written, maybe none of it, and no device was asked
 pub record IsHeadCut (ask : Asked) (told : Around) : Type 0 where

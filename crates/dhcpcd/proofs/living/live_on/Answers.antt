@@ -20,7 +20,7 @@ pub returns-clause-err : goal.returns-clause-err
 returns-clause-err g c =
     out_of_memory (asked c.args.ask.text.now (configuration c.args.ask.conf.now) c.args.ask.specs.now c.args.turns)
     (g.O.Sink.written c.args.out.now) (g.O.Sink.written c.write_live_head.new.out) (g.O.Sink.written c.serve.new.out)
-    (g.W.Outside.seen c.args.live.now) (g.W.Outside.seen c.serve.new.live)
+    (g.W.Outside.seen c.args.live.now) (g.W.Outside.seen c.serve.new.live) c.requires.configured c.requires.fit
     (subst (λ (ns : List NoticeContent). WritesLines (g.O.Sink.written c.args.out.now) (g.O.Sink.written c.write_live_head.new.out)
     (live_head c.args.ask.text.now ns c.args.ask.specs.now)) c.notices.ensures c.in_ok-write_live_head.ensures.ok.1)
     (subst (λ (m : List Managed). Leaves ends.NoMemory c.args.turns m c.args.ask.specs.now (g.W.Outside.seen c.args.live.now)
