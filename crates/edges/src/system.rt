@@ -2,7 +2,6 @@
 
 ghost use Rattle.std.specs.Prelude.{None};
 
-use crate::disks::Disk;
 use crate::loopback::Loopback;
 use crate::machine::{
     ChildWatch, NOT_OPEN, SystemChildren, SystemDisk, SystemLoopback, answer, named,
@@ -15,6 +14,7 @@ use std::net::{Ipv4Addr, Net, SocketAddr, UdpSocket};
 use std::process::{Command, ExitStatus, OpenProcess, Output, Processes, Stdio};
 use std::rt::{Clock, Files};
 use std::time::{Duration, Instant, SystemTime};
+use system_calls::Disk;
 
 impl<R: Files + AllocGlobal + Clone + Drop> Disk for SystemDisk<R> {
     ghost calls = { λ disk. None };

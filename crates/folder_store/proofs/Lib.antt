@@ -1,0 +1,2 @@
+pub mod CrashSteps
+pub mod FolderSteps

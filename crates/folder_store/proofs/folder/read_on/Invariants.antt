@@ -1,0 +1,9 @@
+use Rattle.std.proofs.Common.{◌-◌, ◌^◌}
+use Rattle.folder_store.proofs.FolderSteps.{Reading}
+use Rattle.folder_store.proofs.folder.read_on.Given as goal
+
+abbrev pub invariant-pieces : goal.invariant-pieces
+invariant-pieces g l = Reading l.count (g.D.Disk.calls l.fn.disk) (g.D.Disk.calls l.disk) l.fn.into.items l.into.items
+
+abbrev pub decreases-pieces : goal.decreases-pieces
+decreases-pieces g l = 2 ^ 64 - 1 - l.count

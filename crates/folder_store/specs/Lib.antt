@@ -1,0 +1,2 @@
+pub mod FolderCalls
+pub mod Crashes
