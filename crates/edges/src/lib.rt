@@ -29,4 +29,4 @@ pub use machine::{ChildWatch, SystemChildren, SystemDisk, SystemLoopback};
 pub use processes::{Children, Watch};
 pub use salts::Salts;
 pub use streams::{StdSink, StdSource};
-pub use system_calls::Disk;
+pub use system_calls::{Disk, Note};

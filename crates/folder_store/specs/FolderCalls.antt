@@ -10,12 +10,7 @@ use Rattle.world.specs.declared.faults.DeviceAnswer.TheVariants as Answer
 use Rattle.world.specs.FileNames.{is_file_byte}
 use Rattle.world.specs.FileLists.{is_aside}
 use Rattle.system_calls.specs.Asking.{Does, reason_of}
-use Rattle.system_calls.specs.DiskCalls.{DiskCall, Opened, Made, Read, Wrote, Synced, Closed, Renamed, Removed, Listed, Named, read_by, written_by, named_by, is_piece, is_write, is_entry, is_no_text}
-
--- whether a failure says that there is no such file
-abbrev pub is_missing : ErrorKind → Bool
-is_missing kind.NotFound = true
-is_missing failure = false
+use Rattle.system_calls.specs.DiskCalls.{DiskCall, Opened, Made, Read, Wrote, Synced, Closed, Renamed, Removed, Listed, Named, read_by, written_by, named_by, is_piece, is_write, is_entry, is_no_text, is_missing}
 
 -- Memory is wanted before anything is asked.
 abbrev pub IsUnasked : DeviceAnswer → (old new : Option (List DiskCall)) → Type 0

@@ -30,3 +30,15 @@ answered_so asked unasked (Some kind) (Err answer) did answers = rw answers (kin
 -- an answer that was counted
 pub counted_so : (P : DeviceAnswer → Type 0) (answer result : DeviceAnswer) → result ≡ answer → P answer → P result
 counted_so P answer result same given = rw same given
+
+-- calls between two moments at which nothing was asked
+pub asked_between : {C : Type 0} (asked : (old new : C) → Type 0) (start first second last : C) → first ≡ start → last ≡ second → asked first second
+    → asked start last
+asked_between asked start first second last begins ends did = subst (λ now. asked now last) begins (subst (λ now. asked first now) (sym ends) did)
+
+pub noted_between : {C T : Type 0} (asked : (old new : C) → Option ErrorKind → Type 0) (start first second last : C) (failure : Option ErrorKind)
+    (result : Result T DeviceAnswer) → first ≡ start → last ≡ second → asked first second failure → AnswersAs failure result
+    → Answered (asked start last) (last ≡ start) result
+noted_between asked start first second last failure result begins ends did answers =
+    answered_so (asked start last) (last ≡ start) failure result
+    (asked_between (λ old new. asked old new failure) start first second last begins ends did) answers

@@ -74,6 +74,11 @@ abbrev pub is_write : DiskCall → Bool
 is_write (Wrote bytes (Ok n)) = true
 is_write call = false
 
+-- whether a failure says that there is no such file
+abbrev pub is_missing : ErrorKind → Bool
+is_missing kind.NotFound = true
+is_missing failure = false
+
 -- whether a failure says that a name is no text
 abbrev pub is_no_text : ErrorKind → Bool
 is_no_text kind.InvalidFilename = true

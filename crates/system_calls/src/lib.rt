@@ -4,6 +4,8 @@
 
 mod disks;
 mod faults;
+mod notes;
 
 pub use disks::Disk;
 pub use faults::{Faults, reason};
+pub use notes::Note;
