@@ -1,9 +1,6 @@
-pub mod Causing
 pub mod HeldRows
-pub mod CrashSteps
-pub mod Doing
+pub mod CallPairs
 pub mod ScriptCalls
-pub mod FolderSteps
 pub mod ListingRows
 pub mod WaitSteps
 pub mod WaitEnds

@@ -16,11 +16,11 @@ use Rattle.world.specs.declared.rows.HostRow.{HostRow}
 use Rattle.world.specs.declared.hooking.HookVar.{HookVar}
 use Rattle.world.specs.HookCalls.{Variable, variable_of}
 use Rattle.world.specs.RowText.{row_text}
-use Rattle.edges.specs.Asking.{Does, reason_of}
+use Rattle.system_calls.specs.Asking.{Does, reason_of}
 use Rattle.edges.specs.ChildCalls.{ChildCall, Started, Waited, Printed, Start, RunsJob, SaysAlso, Starts, start_of, printed, value_in}
 use Rattle.edges.specs.HostScripts.{RunsScript, EndsAs, Runs, ChangesRow, ListsRowsOf, words_of}
 use Rattle.edges.specs.Listings.{IsListing}
-use Rattle.edges.proofs.Doing.{then}
+use Rattle.system_calls.proofs.Doing.{then}
 
 pub job_begins : (program : List ℕ) (made call : Command Global) → command_program made ≡ program → command_args made ≡ [] → SameProgramAndArgs made call
     → clears_env call ≡ true → ((k : List ℕ) → command_var call k ≡ None) → RunsJob program [] (start_of call)

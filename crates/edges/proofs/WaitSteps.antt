@@ -7,7 +7,7 @@ use Rattle.edges.specs.declared.datagrams.TheConstants.{HEAD}
 use Rattle.edges.specs.Datagrams.{event_said}
 use Rattle.edges.specs.WireCalls.{WireCall, Bound, Limited, Received, Sent, WallRead, SteadyRead, TellsMoment, Receives, is_from}
 use Rattle.edges.specs.Waits.{heard_from, HearsAll, HearsNone, Brings, BringsYet, Brought, Says}
-use Rattle.edges.proofs.Doing.{behind}
+use Rattle.system_calls.proofs.Doing.{behind}
 
 one_more : (is : Bool) (bytes : List ℕ) (all later earlier : List (List ℕ)) → all ≡ later ++ earlier
     → cond is (bytes ∷ all) all ≡ cond is (bytes ∷ later) later ++ earlier

@@ -13,7 +13,7 @@ use Rattle.world.specs.declared.faults.DeviceAnswer.TheVariants as Answer
 use Rattle.world.specs.declared.hooking.Poll.{Poll}
 use Rattle.world.specs.declared.hooking.Poll.TheVariants.{Running, Ended}
 use Rattle.world.specs.HookCalls.{Variable}
-use Rattle.edges.specs.Asking.{Does, reason_of}
+use Rattle.system_calls.specs.Asking.{Does, reason_of}
 
 -- What a child is started with. It has the environment of this process where it inherits it, but for the variables of
 -- which something is said: the value that it is set to, or that it is left out.

@@ -10,7 +10,7 @@ use Rattle.world.specs.declared.faults.DeviceAnswer.{DeviceAnswer}
 use Rattle.world.specs.declared.faults.DeviceAnswer.TheVariants as Answer
 use Rattle.world.specs.declared.rows.HostRow.{HostRow}
 use Rattle.world.specs.RowText.{row_text}
-use Rattle.edges.specs.Asking.{Does, reason_of}
+use Rattle.system_calls.specs.Asking.{Does, reason_of}
 use Rattle.edges.specs.ChildCalls.{ChildCall, Started, Waited, Printed, Start, Printing}
 use Rattle.edges.specs.Listings.{IsListing}
 use Rattle.edges.specs.declared.commands.Change.{Change}

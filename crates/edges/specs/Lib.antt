@@ -1,12 +1,6 @@
-pub mod Asking
-pub mod DiskCalls
-pub mod FolderCalls
-pub mod Crashes
 pub mod ChildCalls
 pub mod Listings
 pub mod HostScripts
-pub mod Counts
-pub mod Paths
 pub mod Ports
 pub mod Datagrams
 pub mod Salts

@@ -5,7 +5,7 @@ use Rattle.world.specs.declared.wakes.Event.{Event}
 use Rattle.world.specs.declared.wakes.Event.TheVariants.{Quiet}
 use Rattle.world.specs.LinkCalls.{frame_len, cut_event}
 use Rattle.edges.specs.declared.datagrams.TheConstants.{HEAD}
-use Rattle.edges.specs.Asking.{Does}
+use Rattle.system_calls.specs.Asking.{Does}
 use Rattle.edges.specs.Datagrams.{event_said}
 use Rattle.edges.specs.WireCalls.{WireCall, Received, is_from}
 

@@ -14,7 +14,7 @@ use Rattle.edges.specs.declared.loopback.TheConstants.{LOOPBACK}
 use Rattle.world.specs.declared.faults.DeviceAnswer.{DeviceAnswer}
 use Rattle.world.specs.declared.faults.DeviceAnswer.TheVariants as Answer
 use Rattle.world.specs.declared.wakes.Begin.{Begin}
-use Rattle.edges.specs.Asking.{Does}
+use Rattle.system_calls.specs.Asking.{Does}
 use Rattle.edges.specs.Datagrams.{frame_datagram}
 use Rattle.edges.specs.Salts.{salt_step}
 use Rattle.edges.specs.Moments.{next_moment}

@@ -7,12 +7,12 @@ ghost use Rattle.world.specs.HookCalls.{variable_of, RunsIfDone, RunsOn};
 ghost use Rattle.edges.specs.ChildCalls.{script_run, shell_status, start_of, RunsJob, SaysAlso, Starts, Polls, Leaves};
 ghost use Rattle.std.specs.Process.{exit_code, exit_signal};
 
-use crate::faults::{Faults, reason};
 use crate::processes::Children;
 use std::alloc::{AllocError, Global};
 use std::io::ErrorKind;
 use std::os::unix::process::ExitStatusExt;
 use std::process::{Command, ExitStatus};
+use system_calls::{Faults, reason};
 use world::{DeviceAnswer, Failed, HookJob, HookVar, Hooks, NoMemory, Poll};
 
 /// Hook scripts as children of this process, one at a time.
@@ -96,7 +96,7 @@ fn end<C: Children>(children: &mut C) -> Result<(), ErrorKind>
     Ok(())
 }
 
-#[tactic(auto, using(crate::proofs::Causing::counted_cause, crate::proofs::ScriptCalls::job_started))]
+#[tactic(auto, using(system_calls::proofs::Causing::counted_cause, crate::proofs::ScriptCalls::job_started))]
 impl<C: Children + Drop> Hooks for ChildHooks<C> {
     ghost use Rattle.std.specs.Prelude.{None};
 

@@ -11,11 +11,10 @@ ghost use Rattle.world.specs.Rows.{IsRow};
 ghost use Rattle.script_model.specs.RowSpellings.{SpellsRow};
 ghost use Rattle.std.specs.Process.{exit_code};
 ghost use Rattle.edges.specs.ChildCalls.{start_of};
-ghost use Rattle.edges.specs.Asking.{failure_of, Answered};
+ghost use Rattle.system_calls.specs.Asking.{failure_of, Answered};
 ghost use Rattle.edges.specs.HostScripts.{change_word, words_of, RunsScript, EndsAs, Runs, ChangesRow, ListsRowsOf};
 ghost use Rattle.edges.specs.Listings.{IsListing};
 
-use crate::faults::{Faults, reason};
 use crate::processes::Children;
 use net_types::split_at_byte;
 use row_texts::{print_row, read_row};
@@ -24,6 +23,7 @@ use std::collections::BTreeSet;
 use std::io::ErrorKind;
 use std::process::{Command, ExitStatus, Output};
 use std::str;
+use system_calls::{Faults, reason};
 use world::{DeviceAnswer, Host, HostRow, NoMemory};
 
 /// The row on a line of a listing.
@@ -199,7 +199,7 @@ pub struct CommandHost<C: Children + Drop> {
     faults: Faults,
 }
 
-#[tactic(auto, using(crate::proofs::Causing::counted_cause, crate::proofs::Doing::answered_so, crate::proofs::ScriptCalls::changed, crate::proofs::ScriptCalls::printed_so, crate::proofs::ScriptCalls::unprinted_so))]
+#[tactic(auto, using(system_calls::proofs::Causing::counted_cause, system_calls::proofs::Doing::answered_so, crate::proofs::ScriptCalls::changed, crate::proofs::ScriptCalls::printed_so, crate::proofs::ScriptCalls::unprinted_so))]
 impl<C: Children + Drop> CommandHost<C> {
     /// The tables behind the script with this path. Nothing runs yet.
     pub fn new(alloc: Global, children: C, script: &str) -> Result<CommandHost<C>, NoMemory>
@@ -250,7 +250,7 @@ impl<C: Children + Drop> CommandHost<C> {
     }
 }
 
-#[tactic(auto, using(crate::proofs::Causing::counted_cause))]
+#[tactic(auto, using(system_calls::proofs::Causing::counted_cause))]
 impl<C: Children + Drop> Host for CommandHost<C> {
     ghost use Rattle.std.specs.Prelude.{None};
 

@@ -1,19 +1,15 @@
 //! The outside of the daemon on a real machine: the standard streams, files in a folder, scripts that keep the host's
 //! rows, children that run hooks, and datagrams on the loopback address in the place of interfaces.
 //!
-//! The devices stand over traits of this crate, each method of which is one call of the system: `Disk`, `Children` and
-//! `Loopback`. Where a machine tells its calls, each device says which it made, and that it answers by them. The
-//! runtime's own calls (`system`) tell nothing, and are trusted.
+//! The devices stand over traits, each method of which is one call of the system: `Disk` (of `system_calls`),
+//! `Children` and `Loopback`. Where a machine tells its calls, each device says which it made, and that it answers by
+//! them. The runtime's own calls (`system`) tell nothing, and are trusted.
 #![tactic(auto)]
 
 mod children;
 mod commands;
 mod constants;
 mod datagrams;
-mod disks;
-mod faults;
-mod folder;
-mod laws;
 mod links;
 mod loopback;
 mod machine;
@@ -26,12 +22,11 @@ mod system;
 pub use children::ChildHooks;
 pub use commands::CommandHost;
 pub use constants::{datagrams_are_these, loopback_is_this, salts_are_these};
-pub use disks::Disk;
-pub use folder::FolderStore;
-pub use laws::savings_are_whole;
+pub use folder_store::{FolderStore, savings_are_whole};
 pub use links::LoopLink;
 pub use loopback::Loopback;
 pub use machine::{ChildWatch, SystemChildren, SystemDisk, SystemLoopback};
 pub use processes::{Children, Watch};
 pub use salts::Salts;
 pub use streams::{StdSink, StdSource};
+pub use system_calls::{Disk, Note};

@@ -10,7 +10,6 @@ ghost use Rattle.world.specs.LinkCalls.{frame_len};
 ghost use Rattle.world.specs.Streams.{count_after};
 
 use crate::datagrams::{FRAME_LIMIT, HEAD, frame_datagram, taken};
-use crate::faults::Faults;
 use crate::loopback::{LOOPBACK, Loopback};
 use crate::moments::Moments;
 use crate::processes::{Seen, Watch, is_ended, seen_by};
@@ -20,6 +19,7 @@ use rand_core::utils::NextWord;
 use std::alloc::Global;
 use std::io::ErrorKind;
 use std::net::SocketAddr;
+use system_calls::Faults;
 use world::{Begin, DeviceAnswer, Event, Failed, Link, Wake};
 
 /// How many milliseconds the link waits where no moment is asked for.
@@ -367,7 +367,7 @@ impl<L: Loopback + Drop, W: Watch + Drop> LoopLink<L, W> {
     }
 }
 
-#[tactic(auto, using(crate::proofs::Causing::counted_cause))]
+#[tactic(auto, using(system_calls::proofs::Causing::counted_cause))]
 impl<L: Loopback + Drop, W: Watch + Drop> Link for LoopLink<L, W> {
     ghost faults = { λ link. link.faults.count };
 

@@ -2,7 +2,7 @@
 //! told of each call.
 
 ghost use Rattle.std.specs.Prelude.{◌≤◌, [], ◌∷◌, List, Option, length, IfOk};
-ghost use Rattle.edges.specs.Asking.{Does, failure_of};
+ghost use Rattle.system_calls.specs.Asking.{Does, failure_of};
 ghost use Rattle.edges.specs.WireCalls.{WireCall, Bound, Limited, Received, Sent, WallRead, SteadyRead, arrived, wall_nanos, steady_nanos};
 
 use std::io::ErrorKind;

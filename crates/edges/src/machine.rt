@@ -2,8 +2,8 @@
 
 ghost use Rattle.std.specs.Prelude.{◌≡◌, None, Some, Ok, IfOk, IfErr, IsErrAnd, OnOk};
 ghost use Rattle.std.specs.IoError.{error_kind};
-ghost use Rattle.edges.specs.Asking.{failure_of};
-ghost use Rattle.edges.specs.DiskCalls.{NamesEntry};
+ghost use Rattle.system_calls.specs.Asking.{failure_of};
+ghost use Rattle.system_calls.specs.DiskCalls.{NamesEntry};
 
 use std::alloc::Global;
 use std::cell::Cell;

@@ -3,7 +3,7 @@
 ghost use Rattle.std.specs.Prelude.{◌≡◌, ◌≤◌, ◌/◌, [], ◌∷◌, IfOk, Ok};
 ghost use Rattle.std.specs.Time.{instant_nanos, system_time_nanos};
 ghost use Rattle.std.specs.Duration.{as_nanos};
-ghost use Rattle.edges.specs.Asking.{Does};
+ghost use Rattle.system_calls.specs.Asking.{Does};
 ghost use Rattle.edges.specs.Moments.{moment_at, next_moment};
 ghost use Rattle.edges.specs.WireCalls.{SteadyRead, ReadsWall, BeginsWith, TellsMoment};
 

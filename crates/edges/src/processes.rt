@@ -2,7 +2,7 @@
 //! seen.
 
 ghost use Rattle.std.specs.Prelude.{◌≡◌, [], ◌∷◌, Bool, IfSome, List, Option};
-ghost use Rattle.edges.specs.Asking.{Does, failure_of};
+ghost use Rattle.system_calls.specs.Asking.{Does, failure_of};
 ghost use Rattle.edges.specs.ChildCalls.{ChildCall, Started, Asked, Killed, Waited, Printed, start_of, printed};
 ghost use Rattle.edges.specs.Waiting.{is_ended, seen_by};
 

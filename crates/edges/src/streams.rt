@@ -3,9 +3,9 @@
 ghost use Rattle.std.specs.Prelude.{◌≡◌, false, None, Ok};
 ghost use Rattle.world.specs.Streams.{taken_after};
 
-use crate::faults::Faults;
 use std::io::{Read, Write};
 use std::rt::{Stdin, Stdout};
+use system_calls::Faults;
 use world::{DeviceAnswer, Failed, Sink, Source};
 
 /// The standard input. What it holds isn't told. It is at its end after 2^64 - 1 failures, which don't come.
@@ -78,7 +78,7 @@ impl StdSink {
     }
 }
 
-#[tactic(auto, using(crate::proofs::Causing::counted_cause))]
+#[tactic(auto, using(system_calls::proofs::Causing::counted_cause))]
 impl Sink for StdSink {
     ghost faults = { λ sink. sink.faults.count };
 

@@ -2,7 +2,6 @@
 
 ghost use Rattle.std.specs.Prelude.{None};
 
-use crate::disks::Disk;
 use crate::loopback::Loopback;
 use crate::machine::{
     ChildWatch, NOT_OPEN, SystemChildren, SystemDisk, SystemLoopback, answer, named,
@@ -15,9 +14,12 @@ use std::net::{Ipv4Addr, Net, SocketAddr, UdpSocket};
 use std::process::{Command, ExitStatus, OpenProcess, Output, Processes, Stdio};
 use std::rt::{Clock, Files};
 use std::time::{Duration, Instant, SystemTime};
+use system_calls::{Disk, Note};
 
 impl<R: Files + AllocGlobal + Clone + Drop> Disk for SystemDisk<R> {
     ghost calls = { λ disk. None };
+
+    ghost held = { λ disk dir. None };
 
     fn open(&mut self, path: &str) -> Result<(), ErrorKind> {
         self.file = Some(answer(fs::open(&self.rt, path))?);
@@ -61,6 +63,8 @@ impl<R: Files + AllocGlobal + Clone + Drop> Disk for SystemDisk<R> {
     fn next_name(&mut self) -> Result<Option<String>, ErrorKind> {
         named(self.rt.alloc(), self.names.as_mut().ok_or(NOT_OPEN)?.next())
     }
+
+    fn note(&mut self, _dir: &str, _call: Note<'_>) {}
 }
 
 impl<R: Processes + AllocGlobal + Drop> Children for SystemChildren<R> {
@@ -117,13 +121,8 @@ impl<R: Net + Clock + Drop> Loopback for SystemLoopback<R> {
     }
 
     fn limit(&mut self, millis: u64) -> Result<(), ErrorKind> {
-        let limit = Some(Duration::from_millis(millis));
-        answer(
-            self.socket
-                .as_ref()
-                .ok_or(NOT_OPEN)?
-                .set_read_timeout(limit),
-        )
+        let socket = self.socket.as_ref().ok_or(NOT_OPEN)?;
+        answer(socket.set_read_timeout(Some(Duration::from_millis(millis))))
     }
 
     fn receive(&mut self, buf: &mut [u8]) -> Result<(usize, SocketAddr), ErrorKind> {

@@ -2,7 +2,7 @@
 //! chosen calls of it fail.
 
 use crate::failing::Failing;
-use edges::Disk;
+use edges::{Disk, Note};
 use std::alloc::{AllocError, Global};
 use std::io::ErrorKind;
 
@@ -88,6 +88,8 @@ impl Disk for MemDisk {
     ghost use Rattle.std.specs.Prelude.{None};
 
     ghost calls = { λ disk. None };
+
+    ghost held = { λ disk dir. None };
 
     fn open(&mut self, path: &str) -> Result<(), ErrorKind> {
         self.failing.call()?;
@@ -182,4 +184,6 @@ impl Disk for MemDisk {
             None => Err(ErrorKind::InvalidFilename),
         }
     }
+
+    fn note(&mut self, _dir: &str, _call: Note<'_>) {}
 }

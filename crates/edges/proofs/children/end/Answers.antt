@@ -1,4 +1,4 @@
-use Rattle.edges.proofs.Doing.{ended_so}
+use Rattle.edges.proofs.CallPairs.{ended_so}
 use Rattle.edges.proofs.children.end.Goals as goal
 
 pub returns : goal.returns

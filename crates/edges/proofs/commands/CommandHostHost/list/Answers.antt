@@ -1,7 +1,7 @@
 use Rattle.std.proofs.Common.{Err}
 use Rattle.std.specs.String.{string_bytes}
 use Rattle.edges.specs.HostScripts.{ListsRowsOf}
-use Rattle.edges.proofs.Doing.{counted_so}
+use Rattle.system_calls.proofs.Doing.{counted_so}
 use Rattle.edges.proofs.commands.CommandHostHost.list.Goals as goal
 
 pub returns-in-Err-clause-asked : goal.returns-in-Err-clause-asked

@@ -1,4 +1,4 @@
-use Rattle.edges.proofs.Doing.{received_so}
+use Rattle.edges.proofs.CallPairs.{received_so}
 use Rattle.edges.proofs.links.Wire.receive.Goals as goal
 
 pub returns-in-Ok-receive-clause-asked : goal.returns-in-Ok-receive-clause-asked

@@ -1,9 +1,0 @@
-use Rattle.std.proofs.Common.{◌-◌, ◌^◌}
-use Rattle.edges.proofs.FolderSteps.{Reading}
-use Rattle.edges.proofs.folder.read_on.Given as goal
-
-abbrev pub invariant-pieces : goal.invariant-pieces
-invariant-pieces g l = Reading l.count (g.D.Disk.calls l.fn.disk) (g.D.Disk.calls l.disk) l.fn.into.items l.into.items
-
-abbrev pub decreases-pieces : goal.decreases-pieces
-decreases-pieces g l = 2 ^ 64 - 1 - l.count

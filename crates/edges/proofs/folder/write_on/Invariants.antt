@@ -1,9 +1,0 @@
-use Rattle.std.proofs.Common.{length}
-use Rattle.edges.proofs.FolderSteps.{Writing}
-use Rattle.edges.proofs.folder.write_on.Given as goal
-
-abbrev pub invariant-pieces : goal.invariant-pieces
-invariant-pieces g l = Writing l.bytes l.rest (g.D.Disk.calls l.fn.disk) (g.D.Disk.calls l.disk)
-
-abbrev pub decreases-pieces : goal.decreases-pieces
-decreases-pieces g l = length l.rest

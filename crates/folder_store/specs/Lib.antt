@@ -1,0 +1,3 @@
+pub mod FolderCalls
+pub mod FolderFiles
+pub mod Crashes

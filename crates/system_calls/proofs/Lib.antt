@@ -1,0 +1,2 @@
+pub mod Causing
+pub mod Doing

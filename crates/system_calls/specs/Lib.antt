@@ -1,0 +1,6 @@
+pub mod Asking
+pub mod Counts
+pub mod DiskCalls
+pub mod DiskFiles
+pub mod FolderNotes
+pub mod Paths
