@@ -30,7 +30,8 @@ module _ (name first second : List ℕ) where
   itself : (xs : List StoreFile) → put_file other (one ∷ xs) ≡ other ∷ xs
   itself xs = ap (λ o. match_ordering o (other ∷ one ∷ xs) (other ∷ xs) (one ∷ put_file other xs)) (is_equal (name_cmp name name) (name_itself name))
 
-  by_order : (o : Ordering) (file : StoreFile) (files : List StoreFile) → name_cmp name file.name ≡ o → put_file other (put_file one files) ≡ put_file other files
+  by_order : (o : Ordering) (file : StoreFile) (files : List StoreFile) → name_cmp name file.name ≡ o
+      → put_file other (put_file one files) ≡ put_file other files
       → put_file other (match_ordering o (one ∷ file ∷ files) (one ∷ files) (file ∷ put_file one files))
       ≡ match_ordering o (other ∷ file ∷ files) (other ∷ files) (file ∷ put_file other files)
   by_order Less file files e h = itself (file ∷ files)

@@ -29,7 +29,8 @@ by_other : (by more : List StoreFile → List StoreFile → Type 0) → ((old ne
 by_other by more so None new h = h
 by_other by more so (Some old) new (it, change, told, is) = (it, so old.files it.files change, told, is)
 
-ended_so : (call : Bool → StoreCall) (held : FolderHeld) (ended : Result (Unit {0}) ErrorKind) (result : Result (Unit {0}) DeviceAnswer) (files : List StoreFile)
+ended_so : (call : Bool → StoreCall) (held : FolderHeld) (ended : Result (Unit {0}) ErrorKind)
+    (result : Result (Unit {0}) DeviceAnswer) (files : List StoreFile)
     (new : Option StoreTold) → AnswersAs (failure_of ended) result → ByCall call (failure_of ended) held.files files
     → new ≡ Some (store_answered (call (is_ok ended)) files (told_of held)) → ChangesFiles None call (Some (told_of held)) new result
 ended_so call held (Ok x) (Ok y) files new answers change is = is ∙ ap (λ files. Some (store_answered (call true) files (told_of held))) change
@@ -45,7 +46,8 @@ noted_so call held it second last kept is noted =
 none_so : (call : StoreCall) (second last : Option FolderHeld) → second ≡ None → last ≡ option_map (answered call) second → option_map told_of last ≡ None
 none_so call second last none noted = ap (option_map told_of) (noted ∙ ap (option_map (answered call)) none)
 
-told_so : (call : Bool → StoreCall) (ended : Result (Unit {0}) ErrorKind) (start first second last : Option FolderHeld) (result : Result (Unit {0}) DeviceAnswer)
+told_so : (call : Bool → StoreCall) (ended : Result (Unit {0}) ErrorKind) (start first second last : Option FolderHeld)
+    (result : Result (Unit {0}) DeviceAnswer)
     → first ≡ option_map begun start → Changes (ByCall call (failure_of ended)) first second → last ≡ option_map (answered (call (is_ok ended))) second
     → AnswersAs (failure_of ended) result → ChangesFiles None call (option_map told_of start) (option_map told_of last) result
 told_so call ended None first second last result begins change noted answers =
@@ -144,7 +146,8 @@ there dir name from to (Some held) first second named at at_to begins h =
     let (it, made, is) = subst (λ m. Holds dir (Renamed from to None) m second) begins h in
     (made.files (aside_of name) name (aside_named name named) named (aside_unlike name) at at_to).0
 
-pub finds_so : (dir name from to : List ℕ) (ended : Result (Unit {0}) ErrorKind) (start first second : Option FolderHeld) (result : Result (Unit {0}) DeviceAnswer)
+pub finds_so : (dir name from to : List ℕ) (ended : Result (Unit {0}) ErrorKind) (start first second : Option FolderHeld)
+    (result : Result (Unit {0}) DeviceAnswer)
     → IsFileName name → from ≡ file_path dir (aside_of name) → to ≡ file_path dir name → first ≡ option_map begun start
     → Holds dir (Renamed from to (failure_of ended)) first second → AnswersAs (failure_of ended) result
     → FindsAside name (option_map told_of start) result
@@ -205,7 +208,8 @@ pub unread_unnoted : (start first second : Option FolderHeld) → first ≡ opti
 unread_unnoted start first second begins name before after kept =
     unread_early name before after (option_map told_of start) (option_map told_of second) Answer.NoMemory (unnoted_so start first second begins kept) refl
 
-pub unlisted_unnoted : (start first second : Option FolderHeld) → first ≡ option_map begun start → (before after : List (List ℕ)) → Changes AsBefore first second
+pub unlisted_unnoted : (start first second : Option FolderHeld) → first ≡ option_map begun start → (before after : List (List ℕ))
+    → Changes AsBefore first second
     → ListsAsides {T = Unit {0}} (option_map told_of start) (option_map told_of second) before after (Err Answer.NoMemory)
 unlisted_unnoted start first second begins before after kept =
     unlisted_early before after (option_map told_of start) (option_map told_of second) Answer.NoMemory (unnoted_so start first second begins kept) refl
@@ -216,7 +220,8 @@ appended name before after found held second (it, (same, so), told, is) = so
 
 module _ (start first second last : Option FolderHeld) (begins : first ≡ option_map begun start) where
   found_by : (start : Option FolderHeld) → first ≡ option_map begun start → (name before after : List ℕ) (found : Bool)
-      → Changes (IsRead before after (Ok found) name) first second → Keeps (λ files. ReadFile name (reading_of (file_at name files))) start (option_map told_of last)
+      → Changes (IsRead before after (Ok found) name) first second
+      → Keeps (λ files. ReadFile name (reading_of (file_at name files))) start (option_map told_of last)
       → ReadsFile name (option_map told_of start) (option_map told_of last) before after (Ok found)
   found_by None begins name before after found change kept = kept
   found_by (Some held) begins name before after found change kept =

@@ -23,7 +23,8 @@ piece_keeps answer old new h dir = quiet_so (Read answer) (λ dir held files sam
 pub name_keeps : (answer : Result (Option (List ℕ)) ErrorKind) (old new : List ℕ → Option FolderHeld) → Tells (Named answer) old new → KeepsFiles old new
 name_keeps answer old new h dir = quiet_so (Named answer) (λ dir held files same. same) dir (old dir) (new dir) (h dir)
 
-pub listing_keeps : (path : List ℕ) (failure : Option ErrorKind) (old new : List ℕ → Option FolderHeld) → Tells (Listed path failure) old new → KeepsFiles old new
+pub listing_keeps : (path : List ℕ) (failure : Option ErrorKind) (old new : List ℕ → Option FolderHeld) → Tells (Listed path failure) old new
+    → KeepsFiles old new
 listing_keeps path failure old new h dir = quiet_so (Listed path failure) (λ dir held files same. same) dir (old dir) (new dir) (h dir)
 
 -- ---- reading
@@ -183,7 +184,8 @@ list_ends old mid new before after last same h one dir names begun =
     (λ all listed. no_more (λ all. HasAll all (old dir)) all after (of_old all (old dir) (mid dir) (h.keeps dir) (one dir all listed))) in
     record { more = all.more; appended = same ∙ all.appended; listed = all.listed }
 
-pub list_keeps : (old mid new : List ℕ → Option FolderHeld) (before after : List (List ℕ)) → ListSoFar old mid before after → KeepsFiles mid new → KeepsFiles old new
+pub list_keeps : (old mid new : List ℕ → Option FolderHeld) (before after : List (List ℕ)) → ListSoFar old mid before after → KeepsFiles mid new
+    → KeepsFiles old new
 list_keeps old mid new before after h kept = kept_by_all old mid new h.keeps kept
 
 one_name : (dir name : List ℕ) (names before after : List (List ℕ)) (old new : Option FolderHeld) → after ≡ before ++ filter is_aside_name (name ∷ [])
@@ -192,7 +194,8 @@ one_name dir name names before after None new is h listed = absurd listed
 one_name dir name names before after (Some old) new is (it, made, ends) listed = record {
   more = name ∷ [];
   appended = is;
-  listed = subst (λ now. HasListed (names ++ name ∷ []) now) (sym ends) (subst (λ handle. ListsName (Ok (Some name)) handle it.handle old.files) listed made.handle);
+  listed =
+      subst (λ now. HasListed (names ++ name ∷ []) now) (sym ends) (subst (λ handle. ListsName (Ok (Some name)) handle it.handle old.files) listed made.handle);
 }
 
 pub name_listed : (old new : List ℕ → Option FolderHeld) (name : List ℕ) (before after : List (List ℕ)) → after ≡ before ++ filter is_aside_name (name ∷ [])
@@ -214,7 +217,8 @@ last_name : (dir : List ℕ) (names : List (List ℕ)) (old new : Option FolderH
 last_name dir names None new h listed = absurd listed
 last_name dir names (Some old) new (it, made, ends) listed = subst (λ handle. ListsName (Ok None) handle it.handle old.files) listed made.handle
 
-pub names_end : (old new : List ℕ → Option FolderHeld) (before : List (List ℕ)) → Tells (Named (Ok None)) old new → ListsOneMore old new before before (Ok false)
+pub names_end : (old new : List ℕ → Option FolderHeld) (before : List (List ℕ)) → Tells (Named (Ok None)) old new
+    → ListsOneMore old new before before (Ok false)
 names_end old new before h dir names listed = last_name dir names (old dir) (new dir) (h dir) listed
 
 begun_list : (dir : List ℕ) (start begun : Option FolderHeld) (found : List (List ℕ)) → Holds dir (Listed dir None) start begun

@@ -1,5 +1,5 @@
--- What a disk holds of the files in one folder, where it tells that, and what each call of the system makes of these, as
--- IEEE Std 1003.1 says of open, read, write, fsync, rename, unlink and readdir.
+-- What a disk holds of the files in one folder, where it tells that, and what each call of the system makes of these,
+-- as IEEE Std 1003.1 says of open, read, write, fsync, rename, unlink and readdir.
 use Rattle.std.specs.Prelude.{ℕ, Bool, true, false, ◌≡◌, ◌⊎◌, List, [], ◌∷◌, ◌++◌, take, filter, map, Option, None, Some, is_some, Result, Ok, Err, IsPermutation}
 use Rattle.std.specs.List.{list_all}
 use Rattle.std.specs.declared.io.ErrorKind.{ErrorKind}
@@ -22,8 +22,8 @@ pub data Handle : Type 0 where
   ToList : (names : List (List ℕ)) → Handle
 
 pub record FolderHeld : Type 0 where
-  -- The files as they read now, in byte order of their names. Whatever is in the folder under a name that a store's file
-  -- may have is one of these.
+  -- The files as they read now, in byte order of their names. Whatever is in the folder under a name that a store's
+  -- file may have is one of these.
   pub files : List StoreFile
   pub handle : Handle
   -- what is told of the folder's store, as of its last answer, or since its next call began

@@ -22,11 +22,13 @@ returns-in-Err-NoMemory-clause-told g c =
 
 pub returns-in-Err-Failed-clause-asked : goal.returns-in-Err-Failed-clause-asked
 returns-in-Err-Failed-clause-asked g c =
-    asked_between (λ old new. Appends {T = Unit {0}} (string_bytes c.args.self.now.dir) old new c.args.names.now.items c.append_asides.new.names.items (Err c.counted.result))
+    asked_between
+    (λ old new. Appends {T = Unit {0}} (string_bytes c.args.self.now.dir) old new c.args.names.now.items c.append_asides.new.names.items (Err c.counted.result))
     _ _ _ _ c.note.ensures.asked c.note-in-Err-Failed.ensures.asked
     (rw (sym c.deref.ensures, c.counted.ensures.same c.in_ok-room.ensures.room) (rw c.in-Err-Failed.field-0-is at c.in-Err-Failed.ensures.listed))
 
 pub returns-in-Err-NoMemory-clause-asked : goal.returns-in-Err-NoMemory-clause-asked
 returns-in-Err-NoMemory-clause-asked g c =
-    asked_between (λ old new. Appends {T = Unit {0}} (string_bytes c.args.self.now.dir) old new c.args.names.now.items c.append_asides.new.names.items (Err Answer.NoMemory))
+    asked_between
+    (λ old new. Appends {T = Unit {0}} (string_bytes c.args.self.now.dir) old new c.args.names.now.items c.append_asides.new.names.items (Err Answer.NoMemory))
     _ _ _ _ c.note.ensures.asked refl (rw (sym c.deref.ensures) (rw c.in-Err-NoMemory.field-0-is at c.in-Err-NoMemory.ensures.listed))

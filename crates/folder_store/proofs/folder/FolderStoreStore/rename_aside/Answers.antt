@@ -15,7 +15,8 @@ returns-clause-told g c = λ named.
 
 pub returns-clause-asked : goal.returns-clause-asked
 returns-clause-asked g c =
-    noted_between (Renames (file_path (string_bytes c.args.self.now.dir) (aside_of c.args.name.now)) (file_path (string_bytes c.args.self.now.dir) c.args.name.now))
+    noted_between
+    (Renames (file_path (string_bytes c.args.self.now.dir) (aside_of c.args.name.now)) (file_path (string_bytes c.args.self.now.dir) c.args.name.now))
     _ _ _ _ _ _ c.note.ensures.asked c.note-2.ensures.asked
     (rw (sym (c.deref.ensures ∙ c.in_ok-aside.ensures.path), sym (c.deref-2.ensures ∙ c.in_ok-path.ensures.path)) c.rename-renamed.ensures.told)
     (c.answered.ensures.as_asked c.in_ok-room.ensures.room)

@@ -1,5 +1,5 @@
 use Rattle.folder_store.proofs.ReadSteps.{asides_found}
-use Rattle.folder_store.proofs.folder.found_asides.Goals as goal
+use Rattle.folder_store.proofs.listing.found_asides.Goals as goal
 
 pub returns-clause-asides : goal.returns-clause-asides
 returns-clause-asides g c =

@@ -1,6 +1,6 @@
 use Rattle.std.specs.declared.io.ErrorKind.TheVariants as kind
 use Rattle.folder_store.proofs.FileSteps.{some_put}
-use Rattle.folder_store.proofs.folder.write_on.Goals as goal
+use Rattle.folder_store.proofs.writing.write_on.Goals as goal
 
 pub returns-then-n-eq0-clause-held : goal.returns-then-n-eq0-clause-held
 returns-then-n-eq0-clause-held g c = some_put _ _ _ kind.WriteZero _ _ _ c.pieces.invariant.onto c.in-Ok.ensures.held

@@ -2,7 +2,7 @@ use Rattle.std.proofs.Common.{map, ap, ◌∙◌}
 use Rattle.std.proofs.lemmas.List.{map-append}
 use Rattle.std.specs.String.{string_bytes}
 use Rattle.folder_store.proofs.NameSorts.{asides_appended}
-use Rattle.folder_store.proofs.folder.append_asides.Goals as goal
+use Rattle.folder_store.proofs.listing.append_asides.Goals as goal
 
 pub returns-in-Ok-append-clause-asides : goal.returns-in-Ok-append-clause-asides
 returns-in-Ok-append-clause-asides g c =

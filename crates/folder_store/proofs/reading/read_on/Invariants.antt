@@ -1,7 +1,7 @@
 use Rattle.std.proofs.Common.{◌-◌, ◌^◌}
 use Rattle.folder_store.proofs.FolderSteps.{Reading}
 use Rattle.folder_store.proofs.ReadSteps.{ReadSoFar}
-use Rattle.folder_store.proofs.folder.read_on.Given as goal
+use Rattle.folder_store.proofs.reading.read_on.Given as goal
 
 abbrev pub invariant-pieces : goal.invariant-pieces
 invariant-pieces g l = record {

@@ -1,7 +1,7 @@
 use Rattle.std.proofs.Common.{refl}
 use Rattle.folder_store.proofs.FolderSteps.{front_kept, piece_lost, reading_begins, reading_goes_on}
 use Rattle.folder_store.proofs.ReadSteps.{read_begins, read_goes_on, read_all}
-use Rattle.folder_store.proofs.folder.read_on.Goals as goal
+use Rattle.folder_store.proofs.reading.read_on.Goals as goal
 
 pub pieces-init : goal.pieces-init
 pieces-init g c = record { reading = reading_begins _ _; so_far = read_begins _ _ }

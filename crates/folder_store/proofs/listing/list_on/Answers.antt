@@ -1,7 +1,7 @@
 use Rattle.std.proofs.Common.{refl}
 use Rattle.folder_store.proofs.FolderSteps.{listing_goes_on, name_lost}
 use Rattle.folder_store.proofs.ReadSteps.{list_goes_on, list_ends}
-use Rattle.folder_store.proofs.folder.list_on.Goals as goal
+use Rattle.folder_store.proofs.listing.list_on.Goals as goal
 
 pub entries-preserved : goal.entries-preserved
 entries-preserved g c = record {

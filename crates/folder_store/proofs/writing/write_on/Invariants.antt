@@ -1,7 +1,7 @@
 use Rattle.std.proofs.Common.{length}
 use Rattle.folder_store.proofs.FileSteps.{Onto}
 use Rattle.folder_store.proofs.FolderSteps.{Writing}
-use Rattle.folder_store.proofs.folder.write_on.Given as goal
+use Rattle.folder_store.proofs.writing.write_on.Given as goal
 
 abbrev pub invariant-pieces : goal.invariant-pieces
 invariant-pieces g l = record {

@@ -3,7 +3,7 @@ use Rattle.std.specs.String.{string_bytes}
 use Rattle.world.specs.FileNames.{IsFileName}
 use Rattle.folder_store.proofs.FolderSteps.{Listing}
 use Rattle.folder_store.proofs.ReadSteps.{ListSoFar}
-use Rattle.folder_store.proofs.folder.list_on.Given as goal
+use Rattle.folder_store.proofs.listing.list_on.Given as goal
 
 abbrev pub invariant-entries : goal.invariant-entries
 invariant-entries g l = record {

@@ -1,6 +1,6 @@
 use Rattle.std.specs.String.{string_bytes}
 use Rattle.folder_store.proofs.ReadSteps.{name_listed}
-use Rattle.folder_store.proofs.folder.list_one.Goals as goal
+use Rattle.folder_store.proofs.listing.list_one.Goals as goal
 
 pub returns-in_ok-keep_aside-in-Ok-Some-clause-one : goal.returns-in_ok-keep_aside-in-Ok-Some-clause-one
 returns-in_ok-keep_aside-in-Ok-Some-clause-one g c =
