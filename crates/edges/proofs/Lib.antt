@@ -3,6 +3,8 @@ pub mod HeldRows
 pub mod CrashSteps
 pub mod Doing
 pub mod ScriptCalls
+pub mod TableSteps
+pub mod OneListing
 pub mod FolderSteps
 pub mod ListingRows
 pub mod WaitSteps

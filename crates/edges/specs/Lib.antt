@@ -5,6 +5,8 @@ pub mod Crashes
 pub mod ChildCalls
 pub mod Listings
 pub mod HostScripts
+pub mod HostTables
+pub mod HostNotes
 pub mod Counts
 pub mod Paths
 pub mod Ports

@@ -7,7 +7,7 @@ use crate::loopback::Loopback;
 use crate::machine::{
     ChildWatch, NOT_OPEN, SystemChildren, SystemDisk, SystemLoopback, answer, named,
 };
-use crate::processes::{Children, Watch};
+use crate::processes::{Children, HostNote, Watch};
 use std::fs;
 use std::fs::OpenFile;
 use std::io::{ErrorKind, Read, Write};
@@ -66,6 +66,8 @@ impl<R: Files + AllocGlobal + Clone + Drop> Disk for SystemDisk<R> {
 impl<R: Processes + AllocGlobal + Drop> Children for SystemChildren<R> {
     ghost calls = { λ children. None };
 
+    ghost tables = { λ children script. None };
+
     fn start(&mut self, call: &mut Command) -> Result<(), ErrorKind> {
         let call = call.stdin(Stdio::null()).stdout(Stdio::null());
         self.place.set(Some(answer(call.spawn(&self.rt))?));
@@ -95,6 +97,8 @@ impl<R: Processes + AllocGlobal + Drop> Children for SystemChildren<R> {
     fn print(&mut self, call: &mut Command) -> Result<Output, ErrorKind> {
         answer(call.stderr(Stdio::inherit()).output(&self.rt))
     }
+
+    fn note_host(&mut self, _script: &str, _call: HostNote) {}
 }
 
 impl<P: OpenProcess + Drop> Watch for ChildWatch<P> {
@@ -117,13 +121,8 @@ impl<R: Net + Clock + Drop> Loopback for SystemLoopback<R> {
     }
 
     fn limit(&mut self, millis: u64) -> Result<(), ErrorKind> {
-        let limit = Some(Duration::from_millis(millis));
-        answer(
-            self.socket
-                .as_ref()
-                .ok_or(NOT_OPEN)?
-                .set_read_timeout(limit),
-        )
+        let socket = self.socket.as_ref().ok_or(NOT_OPEN)?;
+        answer(socket.set_read_timeout(Some(Duration::from_millis(millis))))
     }
 
     fn receive(&mut self, buf: &mut [u8]) -> Result<(usize, SocketAddr), ErrorKind> {
