@@ -19,7 +19,7 @@ use Rattle.world.specs.RowText.{row_text}
 use Rattle.system_calls.specs.Asking.{Does, reason_of}
 use Rattle.edges.specs.ChildCalls.{ChildCall, Started, Waited, Printed, Start, RunsJob, SaysAlso, Starts, start_of, printed, value_in}
 use Rattle.edges.specs.HostScripts.{RunsScript, EndsAs, Runs, ChangesRow, ListsRowsOf, words_of}
-use Rattle.edges.specs.Listings.{IsListing}
+use Rattle.edges.specs.HostNotes.{ListsText}
 use Rattle.system_calls.proofs.Doing.{then}
 
 pub job_begins : (program : List ℕ) (made call : Command Global) → command_program made ≡ program → command_args made ≡ [] → SameProgramAndArgs made call
@@ -102,7 +102,7 @@ changed script word row start old new failure call runs = record { start = start
 pub printed_so : {T : Type 0} (script : List ℕ) (start : Start) (output : Output Global) (result : Result T DeviceAnswer) (old new : Option (List ChildCall))
     (before after : List HostRow)
     → RunsScript script (codes "host-list" ∷ []) start → Does (Printed start (printed (Ok output)) ∷ []) old new
-    → OnOk result (exit_code output.status ≡ Some (pos 0)) → OnOk result ((kept : List HostRow) × IsListing output.stdout.items kept × (after ≡ before ++ kept))
+    → OnOk result (exit_code output.status ≡ Some (pos 0)) → ListsText output.stdout.items before after result
     → ListsRowsOf script old new before after result
 printed_so script start output (Ok x) old new before after call asked done listing = (
   start,
@@ -111,9 +111,9 @@ printed_so script start output (Ok x) old new before after call asked done listi
     printing = record { status = output.status; text = output.stdout.items };
     done = done;
     asked = asked;
-    kept = listing.0;
-    listing = listing.1;
-    appended = listing.2;
+    kept = listing.kept;
+    listing = listing.listing;
+    appended = listing.appended;
   },
 )
 printed_so script start output (Err answer) old new before after call asked done listing = inr (start, call, (printed (Ok output), tt, asked))

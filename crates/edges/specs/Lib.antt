@@ -1,6 +1,8 @@
 pub mod ChildCalls
 pub mod Listings
 pub mod HostScripts
+pub mod HostTables
+pub mod HostNotes
 pub mod Ports
 pub mod Datagrams
 pub mod Salts

@@ -1,10 +1,10 @@
 //! The addresses and routes of the host, as a script that runs as a child process lists and changes them.
 
-ghost use Rattle.std.specs.Prelude.{◌≡◌, pos, [], ◌∷◌, ◌++◌, map, codes, List, All, IfOk, OnOk, OnErr, None, Some, IfSome};
+ghost use Rattle.std.specs.Prelude.{◌≡◌, pos, [], ◌∷◌, ◌++◌, map, codes, All, IfOk, OnOk, OnErr, None, Some, IfSome, option_map};
 ghost use Rattle.std.specs.BTreeSet.{IsOrdered};
 ghost use Rattle.std.specs.String.{string_bytes};
 ghost use Rattle.world.specs.Causes.{HasDeviceCause};
-ghost use Rattle.world.specs.HostCalls.{Lists};
+ghost use Rattle.world.specs.HostCalls.{Lists, Adds, Removes, Changes};
 ghost use Rattle.world.specs.RowOrder.{row_cmp};
 ghost use Rattle.world.specs.RowText.{row_text};
 ghost use Rattle.world.specs.Rows.{IsRow};
@@ -12,10 +12,12 @@ ghost use Rattle.script_model.specs.RowSpellings.{SpellsRow};
 ghost use Rattle.std.specs.Process.{exit_code};
 ghost use Rattle.edges.specs.ChildCalls.{start_of};
 ghost use Rattle.system_calls.specs.Asking.{failure_of, Answered};
+ghost use Rattle.edges.specs.HostNotes.{host_told, answered_by, note_of, call_of, ChangesTold, ListsText, ListsTold};
+ghost use Rattle.edges.specs.HostTables.{changed, IsChange};
 ghost use Rattle.edges.specs.HostScripts.{change_word, words_of, RunsScript, EndsAs, Runs, ChangesRow, ListsRowsOf};
 ghost use Rattle.edges.specs.Listings.{IsListing};
 
-use crate::processes::Children;
+use crate::processes::{Children, HostNote};
 use net_types::split_at_byte;
 use row_texts::{print_row, read_row};
 use std::alloc::{AllocError, Global};
@@ -130,6 +132,16 @@ impl Change {
             Change::Remove => "host-del",
         }
     }
+
+    /// What is noted of it.
+    fn note(self, row: HostRow, done: bool) -> HostNote
+        ensures { result ≡ note_of self row done }
+    {
+        match self {
+            Change::Add => HostNote::Added(row, done),
+            Change::Remove => HostNote::Removed(row, done),
+        }
+    }
 }
 
 /// The call of a script that changes a row.
@@ -137,12 +149,11 @@ fn change_call(
     alloc: Global,
     script: &str,
     change: Change,
-    row: &HostRow,
+    row: HostRow,
 ) -> Result<Command, AllocError>
-    ensures { IfOk result
-        (λ call. RunsScript script.now (change_word change ∷ words_of (row_text row.now)) (start_of call)) }
+    ensures { IfOk result (λ call. IsChange script.now change row (start_of call)) }
 {
-    let text = text_of(alloc, row)?;
+    let text = text_of(alloc, &row)?;
     let words = words_of(alloc, &text)?;
     script_call(alloc, script, change.word(), &words)
 }
@@ -159,9 +170,11 @@ fn ended(answer: Result<ExitStatus, ErrorKind>) -> Result<(), ErrorKind>
 }
 
 /// Runs a script to its end.
-#[tactic(auto, using(crate::proofs::ScriptCalls::not_started, crate::proofs::ScriptCalls::ran))]
+#[tactic(auto, using(crate::proofs::ScriptCalls::not_started, crate::proofs::ScriptCalls::ran, crate::proofs::TableSteps::unstarted_tables, crate::proofs::TableSteps::run_tables))]
 fn run<C: Children>(children: &mut C, call: &mut Command) -> Result<(), ErrorKind>
-    ensures { Runs (start_of call.old) (C.calls children.old) (C.calls children.new) (failure_of result) }
+    ensures asked { Runs (start_of call.old) (C.calls children.old) (C.calls children.new) (failure_of result) }
+    ensures tables { ChangesTold (start_of call.old) (failure_of result) (C.tables children.old)
+        (C.tables children.new) }
 {
     children.start(call)?;
     ended(children.wait())
@@ -174,11 +187,8 @@ fn append_printed(
     output: &Output,
     rows: &mut Vec<HostRow>,
 ) -> Result<(), DeviceAnswer>
-    ensures listed { Lists None None rows.old.items rows.new.items result }
+    ensures listed { ListsText output.now.stdout.items rows.old.items rows.new.items result }
     ensures done { OnOk result (exit_code output.now.status ≡ Some (pos 0)) }
-    ensures listing { OnOk result
-        ((kept : List HostRow) × IsListing output.now.stdout.items kept
-        × (rows.new.items ≡ rows.old.items ++ kept)) }
 {
     if !output.status.success() {
         return Err(DeviceAnswer::Failed);
@@ -187,7 +197,7 @@ fn append_printed(
     append_rows(alloc, &held, rows)
 }
 
-/// The host's tables, as a script lists and changes them. What they hold isn't told.
+/// The host's tables, as a script lists and changes them. What they hold is told where the machine tells it.
 ///
 /// The script's first word says what it is to do: `host-list` prints all rows, a line for each; `host-add` and
 /// `host-del` are followed by the words of a row. Status 0 is success. A script that doesn't end is waited for.
@@ -199,7 +209,7 @@ pub struct CommandHost<C: Children + Drop> {
     faults: Faults,
 }
 
-#[tactic(auto, using(system_calls::proofs::Causing::counted_cause, system_calls::proofs::Doing::answered_so, crate::proofs::ScriptCalls::changed, crate::proofs::ScriptCalls::printed_so, crate::proofs::ScriptCalls::unprinted_so))]
+#[tactic(auto, using(system_calls::proofs::Causing::counted_cause, crate::proofs::ScriptCalls::printed_so, crate::proofs::ScriptCalls::unprinted_so, crate::proofs::TableSteps::noted_told, crate::proofs::TableSteps::listing_keeps, crate::proofs::TableSteps::printed_told))]
 impl<C: Children + Drop> CommandHost<C> {
     /// The tables behind the script with this path. Nothing runs yet.
     pub fn new(alloc: Global, children: C, script: &str) -> Result<CommandHost<C>, NoMemory>
@@ -217,25 +227,43 @@ impl<C: Children + Drop> CommandHost<C> {
         }
     }
 
+    /// Notes a call of these tables.
+    fn note(&mut self, call: HostNote)
+        ensures told { host_told (C.tables self.new.children (string_bytes self.old.script))
+            ≡ option_map (answered_by call) (host_told (C.tables self.old.children (string_bytes self.old.script))) }
+        ensures asked { C.calls self.new.children ≡ C.calls self.old.children }
+        ensures same { (self.new.script ≡ self.old.script) × (self.new.faults ≡ self.old.faults) }
+    {
+        self.children.note_host(&self.script, call);
+    }
+
+    /// Changes a row by the script, which is run to its end.
     fn change(&mut self, change: Change, row: &HostRow) -> Result<(), DeviceAnswer>
         ensures cause { HasDeviceCause self.old.faults.count self.new.faults.count result }
         ensures script { self.new.script ≡ self.old.script }
+        ensures told { Changes None (changed change row.now) (call_of change row.now)
+            (host_told (C.tables self.old.children (string_bytes self.old.script)))
+            (host_told (C.tables self.new.children (string_bytes self.old.script))) result }
         ensures asked { Answered
             (ChangesRow (string_bytes self.old.script) (change_word change) row.now (C.calls self.old.children)
             (C.calls self.new.children))
             (C.calls self.new.children ≡ C.calls self.old.children) result }
     {
-        let Ok(mut call) = change_call(self.alloc, &self.script, change, row) else {
+        let Ok(mut call) = change_call(self.alloc, &self.script, change, *row) else {
             return Err(DeviceAnswer::NoMemory);
         };
         self.faults.room()?;
         let ran = run(&mut self.children, &mut call);
+        self.note(change.note(*row, ran.is_ok()));
         self.faults.answered(ran)
     }
 
     /// Appends the rows that the script lists.
     fn append_listed(&mut self, rows: &mut Vec<HostRow>) -> Result<(), DeviceAnswer>
-        ensures listed { Lists None None rows.old.items rows.new.items result }
+        ensures listed { ListsTold (host_told (C.tables self.old.children (string_bytes self.old.script)))
+            rows.old.items rows.new.items result }
+        ensures tables { host_told (C.tables self.new.children (string_bytes self.old.script))
+            ≡ host_told (C.tables self.old.children (string_bytes self.old.script)) }
         ensures same { (self.new.script ≡ self.old.script) × (self.new.faults ≡ self.old.faults) }
         ensures asked { ListsRowsOf (string_bytes self.old.script) (C.calls self.old.children)
             (C.calls self.new.children) rows.old.items rows.new.items result }
@@ -256,26 +284,37 @@ impl<C: Children + Drop> Host for CommandHost<C> {
 
     ghost faults = { λ host. host.faults.count };
 
-    ghost told = { λ host. None };
+    ghost told = { λ host. host_told (C.tables host.children (string_bytes host.script)) };
 
     ghost failing = { λ host. None };
 
     fn list(&mut self, rows: &mut Vec<HostRow>) -> Result<(), DeviceAnswer>
         ensures cause { HasDeviceCause self.old.faults.count self.new.faults.count result }
-        ensures told { Lists None None rows.old.items rows.new.items result }
+        ensures told { Lists (host_told (C.tables self.old.children (string_bytes self.old.script)))
+            (host_told (C.tables self.new.children (string_bytes self.old.script))) rows.old.items rows.new.items
+            result }
         ensures script { self.new.script ≡ self.old.script }
         ensures asked { ListsRowsOf (string_bytes self.old.script) (C.calls self.old.children)
             (C.calls self.new.children) rows.old.items rows.new.items result }
     {
         self.faults.room()?;
         match self.append_listed(rows) {
-            Ok(()) => Ok(()),
-            Err(answer) => Err(self.faults.counted(answer)),
+            Ok(()) => {
+                self.note(HostNote::Listed(true));
+                Ok(())
+            }
+            Err(DeviceAnswer::Failed) => {
+                self.note(HostNote::Listed(false));
+                Err(self.faults.counted(DeviceAnswer::Failed))
+            }
+            Err(DeviceAnswer::NoMemory) => Err(DeviceAnswer::NoMemory),
         }
     }
 
     fn add(&mut self, row: &HostRow) -> Result<(), DeviceAnswer>
         ensures cause { HasDeviceCause self.old.faults.count self.new.faults.count result }
+        ensures told { Adds None row.now (host_told (C.tables self.old.children (string_bytes self.old.script)))
+            (host_told (C.tables self.new.children (string_bytes self.old.script))) result }
         ensures script { self.new.script ≡ self.old.script }
         ensures asked { Answered
             (ChangesRow (string_bytes self.old.script) (codes "host-add") row.now (C.calls self.old.children)
@@ -287,6 +326,8 @@ impl<C: Children + Drop> Host for CommandHost<C> {
 
     fn remove(&mut self, row: &HostRow) -> Result<(), DeviceAnswer>
         ensures cause { HasDeviceCause self.old.faults.count self.new.faults.count result }
+        ensures told { Removes None row.now (host_told (C.tables self.old.children (string_bytes self.old.script)))
+            (host_told (C.tables self.new.children (string_bytes self.old.script))) result }
         ensures script { self.new.script ≡ self.old.script }
         ensures asked { Answered
             (ChangesRow (string_bytes self.old.script) (codes "host-del") row.now (C.calls self.old.children)

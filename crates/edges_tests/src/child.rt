@@ -2,7 +2,7 @@
 //! is to fail.
 
 use crate::failing::Failing;
-use edges::{Children, Watch};
+use edges::{Children, HostNote, Watch};
 use std::alloc::{AllocError, Global};
 use std::io::ErrorKind;
 use std::process::{Command, ExitStatus, Output};
@@ -69,6 +69,8 @@ impl Children for MemChildren {
 
     ghost calls = { λ children. None };
 
+    ghost tables = { λ children script. None };
+
     fn start(&mut self, call: &mut Command) -> Result<(), ErrorKind> {
         self.failing.call()?;
         let Ok(line) = line_of(self.alloc, call) else {
@@ -107,6 +109,8 @@ impl Children for MemChildren {
             Err(_) => Err(ErrorKind::OutOfMemory),
         }
     }
+
+    fn note_host(&mut self, _script: &str, _call: HostNote) {}
 }
 
 /// Who sees no child.
