@@ -125,7 +125,7 @@ unchanged change failing (Some told) new changes = changes
 -- what a host tells that was answered so, whether or not it is told which of its calls fail
 one_left : (call : HostCall) (rows : List HostRow) (told : HostTold) (new : Option HostTold) → new ≡ Some (host_answered call rows told)
     → LeavesRows call told.rows rows → HostAnswered (call ∷ []) (Some told) new
-one_left call rows told new same leaves = (host_answered call rows told, same, rows, leaves, refl)
+one_left call rows told new same leaves = (host_answered call rows told, same, (rows, leaves, refl))
 
 shown_rows : (old new : Option HostTold) (listing : List HostRow) → Shows old new listing → HostAnswered (Listed (Some (in_row_order listing)) ∷ []) old new
 shown_rows None new listing shows = shows
