@@ -7,6 +7,7 @@ pub mod Listings
 pub mod HostScripts
 pub mod HostTables
 pub mod HostNotes
+pub mod HookTellings
 pub mod Counts
 pub mod Paths
 pub mod Ports

@@ -32,6 +32,6 @@ pub use laws::savings_are_whole;
 pub use links::LoopLink;
 pub use loopback::Loopback;
 pub use machine::{ChildWatch, SystemChildren, SystemDisk, SystemLoopback};
-pub use processes::{Children, HostNote, Watch};
+pub use processes::{Children, HookNote, HostNote, Watch};
 pub use salts::Salts;
 pub use streams::{StdSink, StdSource};

@@ -7,7 +7,7 @@ use crate::loopback::Loopback;
 use crate::machine::{
     ChildWatch, NOT_OPEN, SystemChildren, SystemDisk, SystemLoopback, answer, named,
 };
-use crate::processes::{Children, HostNote, Watch};
+use crate::processes::{Children, HookNote, HostNote, Watch};
 use std::fs;
 use std::fs::OpenFile;
 use std::io::{ErrorKind, Read, Write};
@@ -68,6 +68,8 @@ impl<R: Processes + AllocGlobal + Drop> Children for SystemChildren<R> {
 
     ghost tables = { λ children script. None };
 
+    ghost hooks = { λ children. None };
+
     fn start(&mut self, call: &mut Command) -> Result<(), ErrorKind> {
         let call = call.stdin(Stdio::null()).stdout(Stdio::null());
         self.place.set(Some(answer(call.spawn(&self.rt))?));
@@ -99,6 +101,8 @@ impl<R: Processes + AllocGlobal + Drop> Children for SystemChildren<R> {
     }
 
     fn note_host(&mut self, _script: &str, _call: HostNote) {}
+
+    fn note_hook(&mut self, _call: HookNote<'_>) {}
 }
 
 impl<P: OpenProcess + Drop> Watch for ChildWatch<P> {
@@ -130,13 +134,8 @@ impl<R: Net + Clock + Drop> Loopback for SystemLoopback<R> {
     }
 
     fn send(&mut self, datagram: &[u8], port: u16) -> Result<usize, ErrorKind> {
-        let peer = (Ipv4Addr::LOCALHOST, port);
-        answer(
-            self.socket
-                .as_ref()
-                .ok_or(NOT_OPEN)?
-                .send_to(datagram, peer),
-        )
+        let socket = self.socket.as_ref().ok_or(NOT_OPEN)?;
+        answer(socket.send_to(datagram, (Ipv4Addr::LOCALHOST, port)))
     }
 
     fn wall(&mut self) -> Result<SystemTime, ErrorKind> {
