@@ -3,6 +3,7 @@ pub mod Listings
 pub mod HostScripts
 pub mod HostTables
 pub mod HostNotes
+pub mod HookTellings
 pub mod Ports
 pub mod Datagrams
 pub mod Salts

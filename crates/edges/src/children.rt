@@ -1,13 +1,14 @@
 //! Hook scripts that run as child processes, one at a time, each with the variables of its job and no others.
 
-ghost use Rattle.std.specs.Prelude.{◌≡◌, ◌≤◌, true, false, map, IfOk, OnOk};
+ghost use Rattle.std.specs.Prelude.{◌≡◌, ◌≤◌, ◌+◌, true, false, map, IfOk, OnOk};
 ghost use Rattle.std.specs.String.{string_bytes};
 ghost use Rattle.world.specs.Causes.{HasCause, HasDeviceCause};
-ghost use Rattle.world.specs.HookCalls.{variable_of, RunsIfDone, RunsOn};
+ghost use Rattle.world.specs.HookCalls.{variable_of, job_of, RunsIfDone, RunsOn, StartsJob, AnswersPoll, Abandons};
 ghost use Rattle.edges.specs.ChildCalls.{script_run, shell_status, start_of, RunsJob, SaysAlso, Starts, Polls, Leaves};
+ghost use Rattle.edges.specs.HookTellings.{hooks_told, Loses};
 ghost use Rattle.std.specs.Process.{exit_code, exit_signal};
 
-use crate::processes::Children;
+use crate::processes::{Children, HookNote};
 use std::alloc::{AllocError, Global};
 use std::io::ErrorKind;
 use std::os::unix::process::ExitStatusExt;
@@ -15,7 +16,7 @@ use std::process::{Command, ExitStatus};
 use system_calls::{Faults, reason};
 use world::{DeviceAnswer, Failed, HookJob, HookVar, Hooks, NoMemory, Poll};
 
-/// Hook scripts as children of this process, one at a time.
+/// Hook scripts as children of this process, one at a time. What they are answered is told where the machine tells it.
 #[derive(Drop)]
 pub struct ChildHooks<C: Children + Drop> {
     alloc: Global,
@@ -23,6 +24,9 @@ pub struct ChildHooks<C: Children + Drop> {
     script: String,
     running: bool,
     faults: Faults,
+    /// How many polls failed, up to 2^64 - 1. They are no part of `faults`, so that those which a machine foretells can
+    /// be counted whatever else fails.
+    lost: u64,
 }
 
 impl<C: Children + Drop> ChildHooks<C> {
@@ -39,8 +43,25 @@ impl<C: Children + Drop> ChildHooks<C> {
                 script,
                 running: false,
                 faults: Faults::none(),
+                lost: 0,
             }),
             Err(_) => Err(NoMemory),
+        }
+    }
+
+    /// Counts a poll that failed. Where there is no room for that the child counts as one that runs.
+    fn lose(&mut self) -> Result<Poll, Failed>
+        ensures loses { Loses self.old.lost self.new.lost result }
+        ensures children { self.new.children ≡ self.old.children }
+        ensures same { (self.new.script ≡ self.old.script) × (self.new.running ≡ self.old.running)
+            × (self.new.faults ≡ self.old.faults) }
+    {
+        match self.lost.checked_add(1) {
+            Some(lost) => {
+                self.lost = lost;
+                Err(Failed)
+            }
+            None => Ok(Poll::Running),
         }
     }
 }
@@ -89,7 +110,8 @@ fn status_number(end: ExitStatus) -> u32
 
 /// Ends the child and waits for it. One that can't be ended isn't waited for.
 fn end<C: Children>(children: &mut C) -> Result<(), ErrorKind>
-    ensures { Leaves true (C.calls children.old) (C.calls children.new) }
+    ensures asked { Leaves true (C.calls children.old) (C.calls children.new) }
+    ensures hooks { C.hooks children.new ≡ C.hooks children.old }
 {
     children.kill()?;
     children.wait()?;
@@ -100,18 +122,21 @@ fn end<C: Children>(children: &mut C) -> Result<(), ErrorKind>
 impl<C: Children + Drop> Hooks for ChildHooks<C> {
     ghost use Rattle.std.specs.Prelude.{None};
 
-    ghost faults = { λ hooks. hooks.faults.count };
+    ghost faults = { λ hooks. hooks.faults.count + hooks.lost };
 
     ghost running = { λ hooks. hooks.running };
 
-    ghost told = { λ hooks. None };
+    ghost told = { λ hooks. hooks_told hooks.lost (C.hooks hooks.children) };
 
     ghost failing = { λ hooks. None };
 
     fn start(&mut self, job: &HookJob) -> Result<(), DeviceAnswer>
         requires { self.old.running ≡ false }
-        ensures cause { HasDeviceCause self.old.faults.count self.new.faults.count result }
+        ensures cause { HasDeviceCause (self.old.faults.count + self.old.lost) (self.new.faults.count + self.new.lost)
+            result }
         ensures runs { RunsIfDone self.new.running result }
+        ensures told { StartsJob (job_of job.now) (hooks_told self.old.lost (C.hooks self.old.children))
+            (hooks_told self.new.lost (C.hooks self.new.children)) result }
         ensures script { self.new.script ≡ self.old.script }
         ensures asked { Starts (script_run (string_bytes self.old.script) (string_bytes job.now.script))
             (map variable_of job.now.vars.items) (C.calls self.old.children) (C.calls self.new.children) result }
@@ -124,32 +149,53 @@ impl<C: Children + Drop> Hooks for ChildHooks<C> {
         match self.children.start(&mut call) {
             Ok(()) => {
                 self.running = true;
+                self.children.note_hook(HookNote::Started(job, true));
                 Ok(())
             }
-            Err(kind) => Err(self.faults.counted(reason(kind))),
+            Err(kind) => match reason(kind) {
+                DeviceAnswer::Failed => {
+                    self.children.note_hook(HookNote::Started(job, false));
+                    Err(self.faults.counted(DeviceAnswer::Failed))
+                }
+                DeviceAnswer::NoMemory => Err(DeviceAnswer::NoMemory),
+            },
         }
     }
 
     fn poll(&mut self) -> Result<Poll, Failed>
         requires { self.old.running ≡ true }
-        ensures cause { HasCause self.old.faults.count self.new.faults.count result }
+        ensures cause { HasCause (self.old.faults.count + self.old.lost) (self.new.faults.count + self.new.lost)
+            result }
         ensures runs { RunsOn self.new.running result }
+        ensures told { AnswersPoll (hooks_told self.old.lost (C.hooks self.old.children))
+            (hooks_told self.new.lost (C.hooks self.new.children)) result }
         ensures script { self.new.script ≡ self.old.script }
         ensures asked { Polls (C.calls self.old.children) (C.calls self.new.children) result }
     {
         match self.children.ask() {
-            Ok(None) => Ok(Poll::Running),
-            Ok(Some(end)) => {
-                self.running = false;
-                Ok(Poll::Ended(status_number(end)))
+            Ok(None) => {
+                self.children
+                    .note_hook(HookNote::Polled(Some(Poll::Running)));
+                Ok(Poll::Running)
             }
-            Err(_) => self.faults.failed(Poll::Running),
+            Ok(Some(end)) => {
+                let ended = Poll::Ended(status_number(end));
+                self.running = false;
+                self.children.note_hook(HookNote::Polled(Some(ended)));
+                Ok(ended)
+            }
+            Err(_) => {
+                self.children.note_hook(HookNote::Polled(None));
+                self.lose()
+            }
         }
     }
 
     fn abandon(&mut self)
-        ensures cause { self.old.faults.count ≤ self.new.faults.count }
+        ensures cause { self.old.faults.count + self.old.lost ≤ self.new.faults.count + self.new.lost }
         ensures runs { self.new.running ≡ false }
+        ensures told { Abandons self.old.running (hooks_told self.old.lost (C.hooks self.old.children))
+            (hooks_told self.new.lost (C.hooks self.new.children)) }
         ensures script { self.new.script ≡ self.old.script }
         ensures asked { Leaves self.old.running (C.calls self.old.children) (C.calls self.new.children) }
     {
@@ -157,6 +203,7 @@ impl<C: Children + Drop> Hooks for ChildHooks<C> {
             return;
         }
         self.running = false;
+        self.children.note_hook(HookNote::Abandoned);
         if end(&mut self.children).is_err() {
             self.faults.counted(DeviceAnswer::Failed);
         }

@@ -26,7 +26,7 @@ pub use folder_store::{FolderStore, savings_are_whole};
 pub use links::LoopLink;
 pub use loopback::Loopback;
 pub use machine::{ChildWatch, SystemChildren, SystemDisk, SystemLoopback};
-pub use processes::{Children, HostNote, Watch};
+pub use processes::{Children, HookNote, HostNote, Watch};
 pub use salts::Salts;
 pub use streams::{StdSink, StdSource};
 pub use system_calls::{Disk, Note};

@@ -6,7 +6,7 @@ use crate::loopback::Loopback;
 use crate::machine::{
     ChildWatch, NOT_OPEN, SystemChildren, SystemDisk, SystemLoopback, answer, named,
 };
-use crate::processes::{Children, HostNote, Watch};
+use crate::processes::{Children, HookNote, HostNote, Watch};
 use std::fs;
 use std::fs::OpenFile;
 use std::io::{ErrorKind, Read, Write};
@@ -72,6 +72,8 @@ impl<R: Processes + AllocGlobal + Drop> Children for SystemChildren<R> {
 
     ghost tables = { λ children script. None };
 
+    ghost hooks = { λ children. None };
+
     fn start(&mut self, call: &mut Command) -> Result<(), ErrorKind> {
         let call = call.stdin(Stdio::null()).stdout(Stdio::null());
         self.place.set(Some(answer(call.spawn(&self.rt))?));
@@ -103,6 +105,8 @@ impl<R: Processes + AllocGlobal + Drop> Children for SystemChildren<R> {
     }
 
     fn note_host(&mut self, _script: &str, _call: HostNote) {}
+
+    fn note_hook(&mut self, _call: HookNote<'_>) {}
 }
 
 impl<P: OpenProcess + Drop> Watch for ChildWatch<P> {

@@ -2,7 +2,7 @@
 //! is to fail.
 
 use crate::failing::Failing;
-use edges::{Children, HostNote, Watch};
+use edges::{Children, HookNote, HostNote, Watch};
 use std::alloc::{AllocError, Global};
 use std::io::ErrorKind;
 use std::process::{Command, ExitStatus, Output};
@@ -71,6 +71,8 @@ impl Children for MemChildren {
 
     ghost tables = { λ children script. None };
 
+    ghost hooks = { λ children. None };
+
     fn start(&mut self, call: &mut Command) -> Result<(), ErrorKind> {
         self.failing.call()?;
         let Ok(line) = line_of(self.alloc, call) else {
@@ -111,6 +113,8 @@ impl Children for MemChildren {
     }
 
     fn note_host(&mut self, _script: &str, _call: HostNote) {}
+
+    fn note_hook(&mut self, _call: HookNote<'_>) {}
 }
 
 /// Who sees no child.
