@@ -1,14 +1,12 @@
 -- What the store over a folder makes of the folder's files, in the system's calls of one call of the store.
-use Rattle.std.specs.Prelude.{ℕ, Bool, true, false, ◌≡◌, ◌⊎◌, List, [], ◌++◌, filter, map, Option, None, Some, Result, Ok, Err, String}
-use Rattle.std.specs.Global.{Global}
-use Rattle.std.specs.String.{string_bytes}
+use Rattle.std.specs.Prelude.{ℕ, Bool, true, false, ◌≡◌, ◌⊎◌, List, ◌++◌, filter, Option, None, Some, Result, Ok, Err}
 use Rattle.std.specs.declared.io.ErrorKind.{ErrorKind}
 use Rattle.world.specs.declared.faults.DeviceAnswer.{DeviceAnswer}
 use Rattle.world.specs.FileNames.{IsFileName}
 use Rattle.world.specs.FileLists.{StoreFile, file_name, file_at, put_file, drop_file, asides}
 use Rattle.world.specs.NamedLists.{InNameOrder}
 use Rattle.world.specs.StoreCalls.{Appended}
-use Rattle.system_calls.specs.DiskFiles.{Handle, ToRead, ToWrite, ToList, FolderHeld, LeavesAny, AreAll}
+use Rattle.system_calls.specs.DiskFiles.{ToRead, ToWrite, ToList, FolderHeld, LeavesAny, AreAll}
 use Rattle.folder_store.specs.FolderCalls.{is_aside_name}
 use Rattle.system_calls.specs.Paths.{file_path}
 
