@@ -1,15 +1,15 @@
 -- What the system's calls make of a folder's files, one after another.
-use Rattle.std.proofs.Common.{◌≡◌, ◌≤◌, ◌⊎◌, ℕ, Bool, true, false, inl, inr, List, [], ◌∷◌, ◌++◌, Option, None, Some, Result, Ok, Err, length, take, drop, append_assoc, append-nil, true≢false, refl, sym, ap, subst, ◌∙◌, cond}
+use Rattle.std.proofs.Common.{◌≡◌, ◌⊎◌, ℕ, Bool, true, false, inl, inr, List, [], ◌∷◌, ◌++◌, Option, None, Some, Result, Ok, Err, length, take, drop, append_assoc, append-nil, true≢false, refl, sym, ap, subst, ◌∙◌, cond}
 use Rattle.std.proofs.lemmas.List.{take-append-drop}
 use Rattle.std.specs.declared.io.ErrorKind.{ErrorKind}
 use Rattle.std.specs.declared.cmp.Ordering.{Ordering}
 use Rattle.std.specs.declared.cmp.Ordering.TheVariants.{Less, Equal, Greater}
 use Rattle.std.specs.Ordering.{is_eq, match_ordering}
 use Rattle.world.specs.FileNames.{name_cmp, is_name, IsFileName}
-use Rattle.world.specs.FileLists.{StoreFile, file_name, file_at, put_file, drop_file}
+use Rattle.world.specs.FileLists.{StoreFile, file_at, put_file, drop_file}
 use Rattle.world.proofs.NameOrder.{name_itself}
 use Rattle.system_calls.specs.DiskCalls.{DiskCall, Opened, Made, Wrote, Synced, Closed, Removed, is_missing}
-use Rattle.system_calls.specs.DiskFiles.{Handle, ToWrite, FolderHeld, LeavesAny, Puts, GoesBehind, FailsToDrop, LeavesFiles, Holds, Tells}
+use Rattle.system_calls.specs.DiskFiles.{FolderHeld, LeavesAny, Puts, GoesBehind, FailsToDrop, LeavesFiles, Holds, Tells}
 use Rattle.folder_store.specs.FolderFiles.{Changes, AsBefore, KeepsFiles, ChangesAt, IsWritten, IsRemoved, IsWriting, EndsWriting, WritesBehind}
 use Rattle.system_calls.specs.Paths.{file_path}
 
@@ -41,11 +41,11 @@ module _ (name first second : List ℕ) where
       ∙ ap (λ xs. file ∷ xs) h
 
   -- the last writing counts
-  pub put_again : (files : List StoreFile) → put_file other (put_file one files) ≡ put_file other files
+  put_again : (files : List StoreFile) → put_file other (put_file one files) ≡ put_file other files
   put_again [] = itself []
   put_again (file ∷ files) = by_order (name_cmp name file.name) file files refl (put_again files)
 
-pub drop_missing : (name : List ℕ) (files : List StoreFile) → file_at name files ≡ None → drop_file name files ≡ files
+drop_missing : (name : List ℕ) (files : List StoreFile) → file_at name files ≡ None → drop_file name files ≡ files
 drop_missing name [] e = refl
 drop_missing name (file ∷ files) e = by (is_name name file.name) e (drop_missing name files)
   where
@@ -68,14 +68,14 @@ after_nothing by (Some old) mid new (it, same, told, is) after =
     let (last, change, kept, made) = subst (λ m. Changes by m new) is after in
     (last, subst (λ files. by files last.files) same change, kept ∙ told, made)
 
-pub before_nothing : (by : List StoreFile → List StoreFile → Type 0) (old mid new : Option FolderHeld) → Changes by old mid → Changes AsBefore mid new
+before_nothing : (by : List StoreFile → List StoreFile → Type 0) (old mid new : Option FolderHeld) → Changes by old mid → Changes AsBefore mid new
     → Changes by old new
 before_nothing by None mid new before after = subst (λ m. Changes AsBefore m new) before after
 before_nothing by (Some old) mid new (it, change, told, is) after =
     let (last, same, kept, made) = subst (λ m. Changes AsBefore m new) is after in
     (last, subst (λ files. by old.files files) (sym same) change, kept ∙ told, made)
 
-abbrev pub IsQuiet : DiskCall → Type 0
+abbrev IsQuiet : DiskCall → Type 0
 IsQuiet call = (dir : List ℕ) (old : FolderHeld) (files : List StoreFile) → LeavesFiles dir call old files → files ≡ old.files
 
 pub quiet_so : (call : DiskCall) → IsQuiet call → (dir : List ℕ) (old new : Option FolderHeld) → Holds dir call old new → Changes AsBefore old new

@@ -1,21 +1,20 @@
 -- What the store over a folder tells of a call, by what the system's calls for it made of the files, and what was noted.
-use Rattle.std.proofs.Common.{◌≡◌, ◌⊎◌, ℕ, Bool, true, false, inl, inr, List, [], ◌++◌, Option, None, Some, option_map, is_some, is_ok, Result, Ok, Err, refl, sym, ap, subst, ◌∙◌}
+use Rattle.std.proofs.Common.{◌≡◌, ℕ, Bool, true, false, inl, inr, List, Option, None, Some, option_map, is_ok, Result, Ok, Err, refl, sym, ap, subst, ◌∙◌}
 use Rattle.std.proofs.lemmas.List.Folds.{list_all-append}
-use Rattle.std.specs.List.{list_all}
 use Rattle.std.specs.declared.io.ErrorKind.{ErrorKind}
 use Rattle.world.specs.declared.faults.DeviceAnswer.{DeviceAnswer}
 use Rattle.world.specs.declared.faults.DeviceAnswer.TheVariants as Answer
-use Rattle.world.specs.FileNames.{aside_of, is_name, IsFileName}
-use Rattle.world.specs.FileLists.{StoreFile, file_at, put_file, drop_file, rename_file, asides}
+use Rattle.world.specs.FileNames.{aside_of, IsFileName}
+use Rattle.world.specs.FileLists.{StoreFile, file_at, rename_file, asides}
 use Rattle.world.specs.StoreCalls.{StoreCall, ListedAsides, ReadFile, WroteAside, SyncedAside, RenamedAside, RemovedFile, SettledFiles, Unread, StoreTold, Appended, store_answered, reading_of, files_by, FailedFiles, ChangesFiles, ListsAsides, ReadsFile, FindsAside, RenameForetold}
 use Rattle.world.proofs.NameOrder.{aside_unlike}
 use Rattle.system_calls.specs.Asking.{failure_of}
 use Rattle.system_calls.specs.Counts.{AnswersAs}
-use Rattle.system_calls.specs.DiskCalls.{DiskCall, Renamed}
-use Rattle.system_calls.specs.DiskFiles.{FolderHeld, LeavesAny, Moves, move_file, Holds, Tells}
+use Rattle.system_calls.specs.DiskCalls.{Renamed}
+use Rattle.system_calls.specs.DiskFiles.{FolderHeld, Moves, move_file, Holds}
 use Rattle.system_calls.specs.FolderNotes.{told_of, begun, answered}
 use Rattle.system_calls.specs.Paths.{file_path}
-use Rattle.folder_store.specs.FolderFiles.{Changes, AsBefore, KeepsFiles, ChangesAt, IsWritten, IsRemoved, IsRead, AppendsAsides}
+use Rattle.folder_store.specs.FolderFiles.{Changes, AsBefore, IsWritten, IsRemoved, IsRead, AppendsAsides}
 
 -- ---- calls that are to change the files
 
@@ -193,12 +192,12 @@ unnoted_so (Some held) first second begins kept =
     ∙ ap (λ files. Some (record { files = files; calls = it.told.calls; disk = it.told.disk; undo = it.told.undo })) same
     ∙ ap (λ told. Some (record { files = held.files; calls = told.calls; disk = told.disk; undo = told.undo })) told
 
-pub unread_early : (name before after : List ℕ) (told told_new : Option StoreTold) (answer : DeviceAnswer) → told_new ≡ told → answer ≡ Answer.NoMemory
+unread_early : (name before after : List ℕ) (told told_new : Option StoreTold) (answer : DeviceAnswer) → told_new ≡ told → answer ≡ Answer.NoMemory
     → ReadsFile name told told_new before after (Err answer)
 unread_early name before after None told_new answer same e = same
 unread_early name before after (Some told) told_new answer same e = rw e same
 
-pub unlisted_early : (before after : List (List ℕ)) (told told_new : Option StoreTold) (answer : DeviceAnswer) → told_new ≡ told → answer ≡ Answer.NoMemory
+unlisted_early : (before after : List (List ℕ)) (told told_new : Option StoreTold) (answer : DeviceAnswer) → told_new ≡ told → answer ≡ Answer.NoMemory
     → ListsAsides {T = Unit {0}} told told_new before after (Err answer)
 unlisted_early before after None told_new answer same e = same
 unlisted_early before after (Some told) told_new answer same e = rw e same

@@ -1,5 +1,5 @@
 -- The names of asides that were listed, once they are in byte order.
-use Rattle.std.proofs.Common.{arith, ◌≡◌, ◌≤◌, ◌<◌, ◌+◌, ◌++◌, ◌&&◌, ℕ, suc, Bool, true, false, cond, List, [], ◌∷◌, length, get_or, map, filter, sum_by, Option, None, Some, String, string_bytes, string_cmp, true≢false, refl, sym, ap, subst, ◌∙◌, IsPermutation, IsSorted}
+use Rattle.std.proofs.Common.{arith, ◌≡◌, ◌≤◌, ◌<◌, ◌+◌, ◌++◌, ◌&&◌, ℕ, suc, Bool, true, false, cond, List, [], ◌∷◌, length, get_or, map, filter, sum_by, Option, None, Some, String, string_bytes, string_cmp, true≢false, refl, sym, ap, ◌∙◌, IsPermutation, IsSorted}
 use Rattle.std.specs.Global.{Global}
 use Rattle.std.specs.List.{AllByRecursion}
 use Rattle.std.specs.declared.cmp.Ordering.{Ordering}

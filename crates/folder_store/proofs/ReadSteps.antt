@@ -1,14 +1,14 @@
 -- What the system's calls give of a folder's files and names, one after another.
-use Rattle.std.proofs.Common.{◌≡◌, ◌≤◌, ◌<◌, ℕ, Bool, true, false, inl, inr, List, [], ◌∷◌, ◌++◌, map, filter, Option, None, Some, Result, Ok, Err, length, take, append_assoc, append-nil, true≢false, refl, sym, ap, subst, ◌∙◌}
+use Rattle.std.proofs.Common.{◌≡◌, ℕ, Bool, true, false, List, [], ◌∷◌, ◌++◌, filter, Option, None, Some, Result, Ok, Err, take, append_assoc, append-nil, true≢false, refl, sym, ap, subst, ◌∙◌}
 use Rattle.std.proofs.lemmas.List.Elements.{filter-append}
 use Rattle.std.specs.declared.io.ErrorKind.{ErrorKind}
 use Rattle.world.specs.declared.faults.DeviceAnswer.{DeviceAnswer}
 use Rattle.world.specs.FileNames.{IsFileName}
-use Rattle.world.specs.FileLists.{StoreFile, file_name, file_at}
+use Rattle.world.specs.FileLists.{file_name, file_at}
 use Rattle.world.specs.NamedLists.{InNameOrder}
 use Rattle.world.specs.StoreCalls.{Appended}
-use Rattle.system_calls.specs.DiskCalls.{DiskCall, Opened, Read, Listed, Named, is_missing, is_no_text}
-use Rattle.system_calls.specs.DiskFiles.{Handle, ToRead, ToList, FolderHeld, Gives, ListsName, AreAll, Makes, Holds, Tells}
+use Rattle.system_calls.specs.DiskCalls.{Opened, Read, Listed, Named, is_missing, is_no_text}
+use Rattle.system_calls.specs.DiskFiles.{FolderHeld, Gives, ListsName, AreAll, Holds, Tells}
 use Rattle.folder_store.specs.FolderCalls.{IsUnopened, is_aside_name}
 use Rattle.folder_store.specs.FolderFiles.{Changes, AsBefore, KeepsFiles, ChangesAt, HasToRead, AppendsRest, ReadsRest, IsRead, HasListed, HasAll, ListsMore, ListsOneMore, AppendsRestOfNames, FindsAsides}
 use Rattle.system_calls.specs.Paths.{file_path}
@@ -17,7 +17,7 @@ use Rattle.folder_store.proofs.FileSteps.{stays, after_nothing, quiet_so, unopen
 pub kept_by_all : (old mid new : List ℕ → Option FolderHeld) → KeepsFiles old mid → KeepsFiles mid new → KeepsFiles old new
 kept_by_all old mid new h after dir = after_nothing AsBefore (old dir) (mid dir) (new dir) (h dir) (after dir)
 
-pub piece_keeps : (answer : Result (List ℕ) ErrorKind) (old new : List ℕ → Option FolderHeld) → Tells (Read answer) old new → KeepsFiles old new
+piece_keeps : (answer : Result (List ℕ) ErrorKind) (old new : List ℕ → Option FolderHeld) → Tells (Read answer) old new → KeepsFiles old new
 piece_keeps answer old new h dir = quiet_so (Read answer) (λ dir held files same. same) dir (old dir) (new dir) (h dir)
 
 pub name_keeps : (answer : Result (Option (List ℕ)) ErrorKind) (old new : List ℕ → Option FolderHeld) → Tells (Named answer) old new → KeepsFiles old new

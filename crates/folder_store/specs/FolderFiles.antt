@@ -1,14 +1,12 @@
 -- What the store over a folder makes of the folder's files, in the system's calls of one call of the store.
-use Rattle.std.specs.Prelude.{ℕ, Bool, true, false, ◌≡◌, ◌⊎◌, List, [], ◌++◌, filter, map, Option, None, Some, Result, Ok, Err, String}
-use Rattle.std.specs.Global.{Global}
-use Rattle.std.specs.String.{string_bytes}
+use Rattle.std.specs.Prelude.{ℕ, Bool, true, false, ◌≡◌, ◌⊎◌, List, ◌++◌, filter, Option, None, Some, Result, Ok, Err}
 use Rattle.std.specs.declared.io.ErrorKind.{ErrorKind}
 use Rattle.world.specs.declared.faults.DeviceAnswer.{DeviceAnswer}
 use Rattle.world.specs.FileNames.{IsFileName}
 use Rattle.world.specs.FileLists.{StoreFile, file_name, file_at, put_file, drop_file, asides}
 use Rattle.world.specs.NamedLists.{InNameOrder}
 use Rattle.world.specs.StoreCalls.{Appended}
-use Rattle.system_calls.specs.DiskFiles.{Handle, ToRead, ToWrite, ToList, FolderHeld, LeavesAny, AreAll}
+use Rattle.system_calls.specs.DiskFiles.{ToRead, ToWrite, ToList, FolderHeld, LeavesAny, AreAll}
 use Rattle.folder_store.specs.FolderCalls.{is_aside_name}
 use Rattle.system_calls.specs.Paths.{file_path}
 
@@ -21,6 +19,7 @@ Changes by (Some old) new =
 abbrev pub AsBefore : (old new : List StoreFile) → Type 0
 AsBefore old new = new ≡ old
 
+-- In no folder a file changes.
 abbrev pub KeepsFiles : (old new : List ℕ → Option FolderHeld) → Type 0
 KeepsFiles old new = (dir : List ℕ) → Changes AsBefore (old dir) (new dir)
 
@@ -30,10 +29,12 @@ abbrev pub ChangesAt : (path : List ℕ) → (by : (name : List ℕ) → (old ne
 ChangesAt path by old new =
     (dir name : List ℕ) → IsFileName name → path ≡ file_path dir name → Changes (by name) (old dir) (new dir)
 
+-- A file has these bytes, or any where that failed.
 abbrev pub IsWritten : (bytes : List ℕ) → Option ErrorKind → (name : List ℕ) → (old new : List StoreFile) → Type 0
 IsWritten bytes None name old new = new ≡ put_file (record { name = name; bytes = bytes }) old
 IsWritten bytes (Some failure) name old new = LeavesAny name old new
 
+-- A file is no more, or maybe still there where that failed.
 abbrev pub IsRemoved : Option ErrorKind → (name : List ℕ) → (old new : List StoreFile) → Type 0
 IsRemoved None name old new = new ≡ drop_file name old
 IsRemoved (Some failure) name old new = (new ≡ old) ⊎ (new ≡ drop_file name old)
@@ -45,6 +46,7 @@ IsWriting (Some old) name bytes now =
     (it : FolderHeld) × (it.files ≡ put_file (record { name = name; bytes = bytes }) old.files)
     × (it.handle ≡ ToWrite name bytes) × (it.told ≡ old.told) × (now ≡ Some it)
 
+-- More was written, or the file may have any bytes where that failed.
 abbrev pub EndsWriting : (old : Option FolderHeld) → (name bytes : List ℕ) → Option ErrorKind
     → (new : Option FolderHeld) → Type 0
 EndsWriting old name bytes None new = IsWriting old name bytes new
@@ -77,10 +79,12 @@ abbrev pub IsRead : (before after : List ℕ) → Result Bool DeviceAnswer → (
 IsRead before after (Ok found) name old new = (new ≡ old) × Appended (file_at name old) before after found
 IsRead before after (Err answer) name old new = new ≡ old
 
+-- The folder is being listed, and gave these names so far.
 abbrev pub HasListed : (names : List (List ℕ)) → Option FolderHeld → Type 0
 HasListed names None = ⊥
 HasListed names (Some held) = held.handle ≡ ToList names
 
+-- These are all names of the folder.
 abbrev pub HasAll : (names : List (List ℕ)) → Option FolderHeld → Type 0
 HasAll names None = ⊥
 HasAll names (Some held) = AreAll names held.files

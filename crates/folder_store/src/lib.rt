@@ -1,4 +1,5 @@
-//! The daemon's store as files in one folder, over any machine that has such files.
+//! The daemon's store as files in one folder, over any machine that has such files. It tells what the folder holds
+//! where the machine does.
 #![tactic(auto)]
 
 mod failures;

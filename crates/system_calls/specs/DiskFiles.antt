@@ -7,7 +7,7 @@ use Rattle.world.specs.FileNames.{is_file_byte, is_name, IsFileName}
 use Rattle.world.specs.FileLists.{StoreFile, file_name, file_at, put_file, drop_file}
 use Rattle.world.specs.NamedLists.{InNameOrder}
 use Rattle.world.specs.StoreCalls.{StoreTold}
-use Rattle.system_calls.specs.DiskCalls.{DiskCall, Opened, Made, Read, Wrote, Synced, Closed, Renamed, Removed, Listed, Named, is_no_text, is_missing}
+use Rattle.system_calls.specs.DiskCalls.{DiskCall, Opened, Made, Read, Wrote, Renamed, Removed, Listed, Named, is_no_text, is_missing}
 use Rattle.system_calls.specs.Paths.{file_path}
 
 -- what was opened last

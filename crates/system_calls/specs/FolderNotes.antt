@@ -12,14 +12,16 @@ abbrev pub told_of : FolderHeld → StoreTold
 told_of held =
     record { files = held.files; calls = held.told.calls; disk = held.told.disk; undo = held.told.undo }
 
+-- a call of the store begins
 abbrev pub begun : FolderHeld → FolderHeld
 begun held = record { files = held.files; handle = held.handle; told = told_of held }
 
--- a call of the store that was answered over the files as they were when it began
+-- A call of the store was answered. What a crash may leave follows from the files as they were when it began.
 abbrev pub answered : StoreCall → FolderHeld → FolderHeld
 answered call held =
     record { files = held.files; handle = held.handle; told = store_answered call held.files held.told }
 
+-- what a listing and a reading gave, where they were done
 abbrev pub listed : Bool → List StoreFile → Option (List (List ℕ))
 listed true files = Some (asides files)
 listed false files = None
@@ -28,6 +30,7 @@ abbrev pub read : Bool → Option (List ℕ) → Reading
 read true bytes = reading_of bytes
 read false bytes = Store.Unread
 
+-- what a note makes of what is told; it changes no file
 abbrev pub noted : Note → FolderHeld → FolderHeld
 noted Begins held = begun held
 noted (ListedAsides done) held = answered (Store.ListedAsides (listed done held.files)) held

@@ -30,7 +30,8 @@ pub trait Disk {
         ensures told { Does (Made path.now (failure_of result) ∷ []) (calls self.old) (calls self.new) }
         ensures held { Tells (Made path.now (failure_of result)) (held self.old) (held self.new) };
 
-    /// Reads on in the open file, and says how many bytes that put at the front of `buf`; none at its end.
+    /// Reads on in the open file, and says how many bytes that put at the front of `buf`; none at its end. What is held
+    /// is told where `buf` has room.
     fn read(&mut self, buf: &mut [u8]) -> Result<usize, ErrorKind>
         ensures room { IfOk result (λ n. n ≤ length buf.new) }
         ensures told { Does (Read (read_into buf.new result) ∷ []) (calls self.old) (calls self.new) }
