@@ -87,7 +87,7 @@ cut_off end ask out middle out_to seen seen_to is fits head left files = record 
   head = head;
   left = left;
   files = files;
-  held = held_until_cut ask.text ask.conf is ask.specs fits ask.turns seen seen_to middle out_to end left;
+  held = held_until_cut ask.text ask.conf is ask.specs fits ask.turns seen seen_to middle out_to end;
 }
 
 pub out_of_memory : (ask : Asked) (out middle out_to : Option (List ℕ)) (seen seen_to : Seen) → IsConfOf ask.text (Ok ask.conf) → FitInterfaces ask.specs

@@ -1,6 +1,6 @@
 -- What a host and a store that tell what they hold, held in a life with a configuration over these interfaces.
 use Rattle.std.specs.Prelude.{flat_map}
-use Rattle.std.proofs.Common.{◌≡◌, inl, inr, ℕ, List, [], ◌++◌, Option, Some, None, Ok, sym, subst, append-nil}
+use Rattle.std.proofs.Common.{◌≡◌, ℕ, List, [], ◌++◌, Option, Some, None, Ok, sym, subst, append-nil}
 use Rattle.net_types.specs.declared.interface.IfSpec.{IfSpec}
 use Rattle.world.specs.HostCalls.{HostTold}
 use Rattle.world.specs.StoreCalls.{StoreTold}
@@ -15,8 +15,7 @@ use Rattle.turn_model.specs.Lives.{OpeningMet, IsOpening, Met, AreTurns}
 use Rattle.conf_text.specs.Configurations.{Configuration, IsConfOf}
 use Rattle.conf_text.specs.Settings.{managed_of}
 use Rattle.daemon.specs.declared.serving.ServeEnd.{ServeEnd}
-use Rattle.daemon.specs.declared.serving.ServeEnd.TheVariants as ends
-use Rattle.daemon.specs.Cuts.{CutOpening, CutLife, Leaves, cut_turns}
+use Rattle.daemon.specs.Cuts.{CutOpening, CutLife, cut_turns}
 use Rattle.daemon.specs.Served.{Begun, Served}
 use Rattle.device_calls.specs.Telling.{Tells}
 use Rattle.device_evidence.proofs.LifeParts.{turns_first}
@@ -92,14 +91,5 @@ module _ (text : List ℕ) (conf : Configuration) (is : IsConfOf text (Ok conf))
         held_through old new cut.begun cut.opening cut.mets cut.calls cut.opens
         (turns_first managed cut.opening.life cut.mets (cut_turns cut.at) cut.turns) cut.tells
 
-    pub held_until_cut : (end : ServeEnd) (left : Leaves end allowed managed specs old new out_from out_to)
-        → HeldUntilCut allowed managed specs old new out_from out_to end left
-    held_until_cut ends.End left = tt
-    held_until_cut ends.TurnsOver cut = in_life ends.TurnsOver cut
-    held_until_cut ends.LinkFault (inl none) = tt
-    held_until_cut ends.LinkFault (inr cut) = in_life ends.LinkFault cut
-    held_until_cut ends.WriteFault (inl cut) = in_opening ends.WriteFault cut
-    held_until_cut ends.WriteFault (inr cut) = in_life ends.WriteFault cut
-    held_until_cut ends.NoMemory (inl none) = tt
-    held_until_cut ends.NoMemory (inr (inl cut)) = in_opening ends.NoMemory cut
-    held_until_cut ends.NoMemory (inr (inr cut)) = in_life ends.NoMemory cut
+    pub held_until_cut : (end : ServeEnd) → HeldUntilCut end allowed managed specs old new out_from out_to
+    held_until_cut end = record { in_opening = in_opening end; in_life = in_life end }

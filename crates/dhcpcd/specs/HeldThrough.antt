@@ -1,6 +1,6 @@
 -- What a host that tells its rows, and a store that tells its files, held in a life, whether or not it is told which of
 -- their calls fail.
-use Rattle.std.specs.Prelude.{ℕ, ◌≡◌, ◌⊎◌, inl, inr, List, [], Option, Some, None}
+use Rattle.std.specs.Prelude.{ℕ, ◌≡◌, List, [], Option, Some, None}
 use Rattle.net_types.specs.declared.interface.IfSpec.{IfSpec}
 use Rattle.world.specs.FileLists.{file_name}
 use Rattle.world.specs.HostCalls.{HostTold}
@@ -14,8 +14,7 @@ use Rattle.device_evidence.specs.HostHeld.{HostHeldInLife}
 use Rattle.device_calls.specs.Calls.{Call}
 use Rattle.device_calls.specs.Worlds.{Seen}
 use Rattle.daemon.specs.declared.serving.ServeEnd.{ServeEnd}
-use Rattle.daemon.specs.declared.serving.ServeEnd.TheVariants as ends
-use Rattle.daemon.specs.Cuts.{CutOpening, CutLife, Leaves}
+use Rattle.daemon.specs.Cuts.{CutOpening, CutLife}
 use Rattle.turn_model.specs.Lives.{OpeningMet, Met}
 
 -- After the opening and after each turn the host held what it shall, if it told its rows in their order at first.
@@ -40,22 +39,11 @@ pub record HeldInCut (managed : List Managed) (specs : List IfSpec) (old new : S
   pub host : HostHeldThrough managed specs opening mets end old.host.told new.host.told
   pub kept : FilesHeldThrough managed opening mets end old.store.failing old.store.told new.store.told
 
-module _ (allowed : ℕ) (managed : List Managed) (specs : List IfSpec) (old new : Seen)
-    (out_from out_to : Option (List ℕ)) where
-  abbrev pub InOpening : {end : ServeEnd} → CutOpening end managed specs old new out_from out_to → Type 0
-  InOpening cut = HeldInCut managed specs old new cut.opening [] []
-
-  abbrev pub InLife : {end : ServeEnd} → CutLife end allowed managed specs old new out_from out_to → Type 0
-  InLife cut = HeldInCut managed specs old new cut.opening cut.mets cut.calls
-
-  -- Where the opening wasn't over nothing is said.
-  abbrev pub HeldUntilCut : (end : ServeEnd) → Leaves end allowed managed specs old new out_from out_to → Type 0
-  HeldUntilCut ends.End left = Unit {0}
-  HeldUntilCut ends.TurnsOver cut = InLife cut
-  HeldUntilCut ends.LinkFault (inl none) = Unit {0}
-  HeldUntilCut ends.LinkFault (inr cut) = InLife cut
-  HeldUntilCut ends.WriteFault (inl cut) = InOpening cut
-  HeldUntilCut ends.WriteFault (inr cut) = InLife cut
-  HeldUntilCut ends.NoMemory (inl none) = Unit {0}
-  HeldUntilCut ends.NoMemory (inr (inl cut)) = InOpening cut
-  HeldUntilCut ends.NoMemory (inr (inr cut)) = InLife cut
+-- So it is wherever the life was cut off, in the lines of its opening or later. Where the opening wasn't over nothing is
+-- said.
+pub record HeldUntilCut (end : ServeEnd) (allowed : ℕ) (managed : List Managed) (specs : List IfSpec) (old new : Seen)
+    (out_from out_to : Option (List ℕ)) : Type 0 where
+  pub in_opening : (cut : CutOpening end managed specs old new out_from out_to)
+      → HeldInCut managed specs old new cut.opening [] []
+  pub in_life : (cut : CutLife end allowed managed specs old new out_from out_to)
+      → HeldInCut managed specs old new cut.opening cut.mets cut.calls

@@ -100,8 +100,8 @@ pub record IsCutOff (end : ServeEnd) (ask : Asked) (told : Around) : Type 0 wher
   pub left : Leaves end ask.turns
       (managed_of ask.conf ask.specs) ask.specs told.seen_from told.seen_to middle told.out_to
   pub files : LeavesFiled (managed_of ask.conf ask.specs) ask.specs told.seen_from told.seen_to
-  pub held : HeldUntilCut ask.turns (managed_of ask.conf ask.specs) ask.specs told.seen_from told.seen_to middle
-      told.out_to end left
+  pub held : HeldUntilCut end ask.turns (managed_of ask.conf ask.specs) ask.specs told.seen_from told.seen_to middle
+      told.out_to
 
 -- a front of the head was written, maybe none of it, and no device was asked
 pub record IsHeadCut (ask : Asked) (told : Around) : Type 0 where
