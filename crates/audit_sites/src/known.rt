@@ -6,7 +6,8 @@ ghost use Rattle.conf_text.specs.Fits.{FitsSpec};
 ghost use Rattle.conf_text.specs.Settings.{managed_of};
 ghost use Rattle.audit_sites.specs.Hosts.{IsRead};
 
-use conf_text::{Conf, managed, settings_fit};
+use conf_laws::settings_fit;
+use conf_text::{Conf, managed};
 use net_types::{IfSpec, Mac, NoMemory};
 use settings::Managed;
 use std::alloc::Global;

@@ -1,4 +1,4 @@
-//! Answers vectors of the lowest layer, and of the crates that read and write frames and messages.
+//! Answers vectors of the lowest layer, and of the crates that read and write frames and messages of DHCPv4.
 #![tactic(auto)]
 
 mod addresses;
@@ -6,9 +6,7 @@ mod asking;
 mod frames;
 mod lists;
 mod messages4;
-mod messages6;
 mod options4;
-mod options6;
 
 use net_types::NoMemory;
 use std::alloc::Global;
@@ -49,13 +47,7 @@ impl Answers for CodecVectors {
             | "udp4-frame"
             | "udp6-frame" => frames::answer(alloc, word, arguments),
             "areas" | "option" | "numbers" | "routes" => options4::answer(alloc, word, arguments),
-            "read4" | "write4" | "frame4" | "ours" | "heard4" | "server" => {
-                messages4::answer(alloc, word, arguments)
-            }
-            "duid" | "servers6" | "search6" | "nested" => {
-                options6::answer(alloc, word, arguments)
-            }
-            _ => messages6::answer(alloc, word, arguments),
+            _ => messages4::answer(alloc, word, arguments),
         }
     }
 }

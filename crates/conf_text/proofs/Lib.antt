@@ -1,8 +1,4 @@
-mod FoundFits
-mod IaFits
-mod LeadLaws
-mod IaLaws
-mod OnceLaws
+pub mod OnceLaws
 mod FoundLaws
 mod ShareLaws
 pub mod ListLaws
@@ -14,8 +10,5 @@ pub mod CountLaws
 pub mod ResultLaws
 pub mod BlockLaws
 pub mod StepLaws
-pub mod OneLaws
 pub mod ReadLaws
 pub mod ManagedLaws
-pub mod SaidFits
-pub mod ConfFits

@@ -1,18 +1,14 @@
 -- Identity associations of which each stands once.
-use Rattle.std.proofs.Common.{◌≡◌, ◌≢◌, ℕ, ◌≤◌, Bool, true, false, not, ◌&&◌, ◌||◌, ◌==◌, cond, List, [], ◌∷◌, ◌++◌, length, map, refl, sym, ap, subst, ◌∙◌, arith}
-use Rattle.std.specs.Prelude.{AllPairs}
+use Rattle.std.proofs.Common.{◌≡◌, ◌≢◌, ℕ, Bool, true, false, not, ◌&&◌, ◌||◌, ◌==◌, cond, List, [], ◌∷◌, ◌++◌, refl, sym, ap, ◌∙◌}
 use Rattle.std.specs.List.{filter, list_any}
-use Rattle.std.proofs.lemmas.Bool.{true≢false, eqb-true, eq-eqb, and_parts, and_from}
-use Rattle.std.proofs.lemmas.List.{append-nil, length-map}
-use Rattle.std.proofs.lemmas.List.Elements.{All-weaker, filter-append, filter_passes}
-use Rattle.std.proofs.lemmas.List.Kept.{AllPairs-cons, AllPairs-filter}
-use Rattle.std.proofs.lemmas.List.Sums.{count_by-le-length, length-filter}
+use Rattle.std.proofs.lemmas.Bool.{true≢false, eqb-true, and_parts}
+use Rattle.std.proofs.lemmas.List.{append-nil}
+use Rattle.std.proofs.lemmas.List.Elements.{filter-append}
 use Rattle.v6_options.specs.declared.ia.IaKind.{IaKind}
 use Rattle.v6_options.specs.declared.ia.IaKind.TheVariants.{Na, Pd}
 use Rattle.settings.specs.declared.dhcp6_conf.IaConf.{IaConf}
 use Rattle.settings.specs.Dhcp6Settings.{conf_key}
-use Rattle.conf_directives.specs.Contents.{IaContent}
-use Rattle.conf_text.specs.Associations.{Association, association, associations, each_once, ias_of, is_kept, is_same_ia}
+use Rattle.conf_text.specs.Associations.{Association, associations, each_once, is_same_ia}
 use Rattle.conf_text.specs.Limits.{is_same_kind}
 use Rattle.conf_text.specs.AssociationSteps.{once_more}
 
@@ -24,15 +20,8 @@ kinds_same Na Pd e = absurd (true≢false (sym e))
 kinds_same Pd Na e = absurd (true≢false (sym e))
 kinds_same Pd Pd e = refl
 
-same_kind : (kind : IaKind) → is_same_kind kind kind ≡ true
-same_kind Na = refl
-same_kind Pd = refl
-
-itself : (ia : IaConf) → is_same_ia ia ia ≡ true
-itself ia = and_from (is_same_kind ia.kind ia.kind) _ (same_kind ia.kind) (eq-eqb ia.iaid ia.iaid refl)
-
 -- which others one is the same as is told by its kind and its IAID
-by_key : (first one other : IaConf) → conf_key one ≡ conf_key other → is_same_ia first one ≡ is_same_ia first other
+pub by_key : (first one other : IaConf) → conf_key one ≡ conf_key other → is_same_ia first one ≡ is_same_ia first other
 by_key first one other e = ap (λ (key : IaKind × ℕ). is_same_kind first.kind key.0 && first.iaid == key.1) e
 
 keys_same : (one other : IaConf) → is_same_ia one other ≡ true → conf_key one ≡ conf_key other
@@ -41,12 +30,8 @@ keys_same one other e =
     ap (λ (kind : IaKind). (kind, one.iaid)) (kinds_same one.kind other.kind parts.0)
     ∙ ap (λ (iaid : ℕ). (other.kind, iaid)) (eqb-true one.iaid other.iaid parts.1)
 
-unlike_key : (one other : IaConf) → not (is_same_ia one other) ≡ true → conf_key one ≢ conf_key other
-unlike_key one other apart e = true≢false (sym (itself one) ∙ by_key one one other e ∙ apart_is (is_same_ia one other) apart)
-  where
-    apart_is : (b : Bool) → not b ≡ true → b ≡ false
-    apart_is true h = absurd (true≢false (sym h))
-    apart_is false h = refl
+abbrev pub ia_in : Association → IaConf
+ia_in one = one.ia
 
 -- ---- one more
 
@@ -102,46 +87,3 @@ each_once_more (ia ∷ ias) last =
         ap (λ (ls : List Association). ia ∷ ls) (pushed false e)
         ∙ sym (ap (λ b. cond (b || list_any (λ one. is_same_ia one.ia last.ia) kept) (ia ∷ kept) (ia ∷ kept ++ last ∷ [])) e
         ∙ ap (λ b. cond b (ia ∷ kept) (ia ∷ kept ++ last ∷ [])) (still_among ia last e once ∙ f))
-
--- ---- all of them
-
-pub kept_of_map : {X Y : Type 0} (p : Y → Bool) (f : X → Y) (xs : List X) → filter p (map f xs) ≡ map f (filter (λ x. p (f x)) xs)
-kept_of_map p f [] = refl
-kept_of_map p f (x ∷ xs) = by (p (f x)) (kept_of_map p f xs)
-  where
-    by : (b : Bool) → filter p (map f xs) ≡ map f (filter (λ x. p (f x)) xs)
-        → cond b (f x ∷ filter p (map f xs)) (filter p (map f xs)) ≡ map f (cond b (x ∷ filter (λ x. p (f x)) xs) (filter (λ x. p (f x)) xs))
-    by true same = ap (λ ys. f x ∷ ys) same
-    by false same = same
-
-abbrev pub ia_in : Association → IaConf
-ia_in one = one.ia
-
-pub each_unlike : (all : List Association) → AllPairs (λ one other. conf_key one ≢ conf_key other) (map ia_in (each_once all))
-each_unlike [] = λ i j d less within. absurd (omega arith)
-each_unlike (first ∷ all) =
-    let p : IaConf → Bool = λ other. not (is_same_ia first.ia other) in
-    let ias : List IaConf = map ia_in (each_once all) in
-    subst (λ (others : List IaConf). AllPairs (λ one other. conf_key one ≢ conf_key other) (first.ia ∷ others)) (kept_of_map p ia_in (each_once all))
-    (AllPairs-cons (λ (one other : IaConf). conf_key one ≢ conf_key other) first.ia (filter p ias)
-    (All-weaker (λ other. p other ≡ true) (λ other. conf_key first.ia ≢ conf_key other) (λ other apart. unlike_key first.ia other apart) (filter p ias)
-    (filter_passes p ias))
-    (AllPairs-filter (λ (one other : IaConf). conf_key one ≢ conf_key other) p ias (each_unlike all)))
-
-few_kept : {X : Type 0} (p : X → Bool) (xs : List X) → length (filter p xs) ≤ length xs
-few_kept p xs = omega (arith, length-filter p xs, count_by-le-length p xs)
-
-once_few : (all : List Association) → length (each_once all) ≤ length all
-once_few [] = omega arith
-once_few (first ∷ all) = omega (arith, few_kept (λ (other : Association). not (is_same_ia first.ia other.ia)) (each_once all), once_few all)
-
-pub ias_few : (index : ℕ) (lines : List IaContent) → length (ias_of index lines) ≤ length lines
-ias_few index lines =
-    let kept : List IaContent = filter (is_kept index lines) lines in
-    omega (
-      arith,
-      length-map (associations index lines) ia_in,
-      once_few (map (association index) kept),
-      length-map kept (association index),
-      few_kept (is_kept index lines) lines,
-    )

@@ -28,6 +28,5 @@ mod times;
 pub use answers::{ConfAnswer, ConfCause, ConfFault};
 pub use conf::{Conf, Notice, notices};
 pub use constants::bounds_of_a_configuration;
-pub use managing::{managed, settings, settings_fit};
-pub use reading::{configuration_is_one, read_conf};
-pub use sharing::shares_are_planned;
+pub use managing::{managed, settings};
+pub use reading::read_conf;

@@ -5,7 +5,6 @@ ghost use Rattle.settings.specs.Dhcp4Settings.{identifier_in};
 ghost use Rattle.conf_directives.specs.Contents.{identifier_content};
 ghost use Rattle.conf_text.specs.Values.{first_said};
 ghost use Rattle.conf_text.specs.Contents.{configuration, scope_content};
-ghost use Rattle.conf_text.specs.Fits.{SettingsFit};
 ghost use Rattle.conf_text.specs.Settings.{dhcp4_in_force, dhcp6_in_force, first_router, identifier_or_hardware, in_force, in_force_among};
 ghost use Rattle.conf_text.specs.Settings.{managed_of, managed_with, settings_for, settings_of};
 
@@ -200,8 +199,3 @@ pub fn managed(alloc: Global, conf: &Conf, ifaces: &[IfSpec]) -> Result<Vec<Mana
     }
     Ok(all)
 }
-
-/// Law: what is in force for managed interfaces is within the bounds that their clients rely on.
-pub fn settings_fit()
-    ensures { SettingsFit }
-{}

@@ -3,7 +3,7 @@ ghost use Rattle.std.specs.Prelude.{map, Ok, IfOk, IfErr};
 ghost use Rattle.conf_words.specs.Directives.{shown_line};
 ghost use Rattle.conf_text.specs.Configurations.{IsConfOf};
 ghost use Rattle.conf_text.specs.Contents.{configuration};
-ghost use Rattle.conf_text.specs.Laws.{AreLinesOf, ConfigurationIsOne, Refuses, RefusesLines};
+ghost use Rattle.conf_text.specs.Laws.{AreLinesOf, Refuses, RefusesLines};
 
 use crate::answers::{ConfAnswer, ConfCause, fault_at};
 use crate::conf::Conf;
@@ -35,8 +35,3 @@ pub fn read_conf(alloc: Global, text: &[u8]) -> Result<Conf, ConfAnswer>
         None => Ok(conf),
     }
 }
-
-/// A text has one configuration or one first fault, and not both.
-pub fn configuration_is_one()
-    ensures { ConfigurationIsOne }
-{}

@@ -3,7 +3,6 @@ ghost use Rattle.std.specs.Prelude.{◌≡◌, filter_map, IfOk, OnOk};
 ghost use Rattle.conf_text.specs.AssociationSteps.{shared_in, taken_on};
 ghost use Rattle.conf_text.specs.Contents.{configuration};
 ghost use Rattle.conf_text.specs.Shares.{given_by, outlet_by, outlet_of, share_of, shares_taken, sla_of, taken_with};
-ghost use Rattle.conf_text.specs.SharesTaken.{PlannedAreTaken, TakenArePlanned};
 
 use crate::block_name::is_named;
 use crate::choosing::{is_managed, metric_said, spec_named};
@@ -145,9 +144,3 @@ pub fn shared_by(
     let taken = shares_taken(alloc, subject.ifaces, ia.hint, shares)?;
     all_given(alloc, subject, ia.iaid, &taken)
 }
-
-/// Law: the shares of a line that are taken obey the rules, and where all do, none is left out.
-pub fn shares_are_planned()
-    ensures taken { TakenArePlanned }
-    ensures whole { PlannedAreTaken }
-{}

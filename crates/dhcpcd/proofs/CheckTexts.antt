@@ -4,7 +4,7 @@ use Rattle.std.specs.Prelude.{map}
 use Rattle.script_model.specs.Lines.{lines_text}
 use Rattle.device_calls.specs.Printing.{Prints}
 use Rattle.conf_text.specs.Configurations.{NoticeContent, Configuration}
-use Rattle.conf_text.proofs.OneLaws.{configuration_one}
+use Rattle.conf_laws.proofs.OneLaws.{configuration_one}
 use Rattle.dhcpcd.specs.declared.status.Status.{Status}
 use Rattle.dhcpcd.specs.declared.status.Status.TheVariants as status
 use Rattle.dhcpcd.specs.Checks.{IsCheckOf, RefusesConfiguration, TellsConfiguration, check_text, checking}

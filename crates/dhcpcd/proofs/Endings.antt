@@ -11,7 +11,7 @@ use Rattle.dhcpcd.specs.Input.{limit, IsInput, IsTooLong}
 use Rattle.dhcpcd.specs.Refusals.{IsNoScript, IsRefused}
 use Rattle.dhcpcd.specs.Replays.{IsScript, transcript}
 use Rattle.dhcpcd.specs.Statuses.{TellsScript, IsStopped, IsAnswer, HasStatusCause, StopsWriting, Completes}
-use Rattle.conf_text.proofs.OneLaws.{configuration_one}
+use Rattle.conf_laws.proofs.OneLaws.{configuration_one}
 use Rattle.dhcpcd.proofs.OneReading.{fault_refuses, conf_fault_refuses}
 
 -- ---- writing stopped before its end

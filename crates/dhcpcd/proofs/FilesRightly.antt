@@ -5,10 +5,10 @@ use Rattle.world.specs.NamedLists.{InNameOrder}
 use Rattle.world.specs.StoreCalls.{StoreTold}
 use Rattle.world.specs.Undoing.{UndoneFile, content_of, set_file, undone}
 use Rattle.world.proofs.NameOrder.{put_in_order, drop_in_order}
-use Rattle.world_mem.specs.StoreRecord.{put_files}
-use Rattle.world_mem.specs.CrashRecord.{files_left}
-use Rattle.world_mem.specs.declared.crashes.Pick.{Pick}
-use Rattle.world_mem.specs.declared.crashes.Pick.TheVariants.{Old, New}
+use Rattle.world_mem.specs.StoreMem.StoreRecord.{put_files}
+use Rattle.world_mem.specs.StoreMem.CrashRecord.{files_left}
+use Rattle.world_mem.specs.StoreMem.declared.crashes.Pick.{Pick}
+use Rattle.world_mem.specs.StoreMem.declared.crashes.Pick.TheVariants.{Old, New}
 use Rattle.settings.specs.declared.interfaces.Managed.{Managed}
 use Rattle.script_model.specs.Crashes.{CrashScript}
 use Rattle.script_model.specs.ScriptTexts.{ScriptLines, LifeScript}

@@ -6,8 +6,8 @@ use Rattle.world.specs.StoreCalls.{StoreTold}
 use Rattle.world.specs.SoundStores.{IsSound}
 use Rattle.world.proofs.SoundStores.{known_unchanged}
 use Rattle.world.proofs.SoundLaws.{sound_start}
-use Rattle.world_mem.specs.StoreRecord.{put_files}
-use Rattle.world_mem.specs.CrashRecord.{files_left}
+use Rattle.world_mem.specs.StoreMem.StoreRecord.{put_files}
+use Rattle.world_mem.specs.StoreMem.CrashRecord.{files_left}
 use Rattle.settings.specs.declared.interfaces.Managed.{Managed}
 use Rattle.script_model.specs.Crashes.{CrashScript}
 use Rattle.script_model.specs.ScriptTexts.{ScriptLines, LifeScript}

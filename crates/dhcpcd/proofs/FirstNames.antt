@@ -6,8 +6,8 @@ use Rattle.std.proofs.lemmas.List.Elements.{recursion_from_All, All-from_recursi
 use Rattle.net_types.proofs.AllLaws.{all_map, all_mapped}
 use Rattle.world.specs.FileLists.{StoreFile}
 use Rattle.world.specs.FileNames.{IsFileName}
-use Rattle.world_mem.specs.declared.stores.MemFile.{MemFile}
-use Rattle.world_mem.specs.StoreRecord as stores
+use Rattle.world_mem.specs.StoreMem.declared.stores.MemFile.{MemFile}
+use Rattle.world_mem.specs.StoreMem.StoreRecord as stores
 use Rattle.script_model.specs.FirstFiles.{FitsFile}
 
 pub names_held : (files : List StoreFile) (held : List MemFile) → map stores.file_of held ≡ files → All FitsFile files

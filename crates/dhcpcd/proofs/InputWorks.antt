@@ -6,7 +6,7 @@ use Rattle.world.specs.HookCalls.{Variable}
 use Rattle.settings.specs.Fitting.{AreManaged}
 use Rattle.conf_text.specs.Configurations.{Configuration, IsConfOf}
 use Rattle.conf_text.specs.Settings.{managed_of}
-use Rattle.conf_text.proofs.OneLaws.{configuration_one}
+use Rattle.conf_laws.proofs.OneLaws.{configuration_one}
 use Rattle.net_types.specs.FirstBadLine.{IsSpelled}
 use Rattle.lab_schedule.specs.Schedules.{Schedule, SpellsSchedule}
 use Rattle.lab_schedule.proofs.ScheduleLaws.{schedules_one}

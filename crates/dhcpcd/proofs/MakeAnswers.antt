@@ -8,7 +8,7 @@ use Rattle.replay_text.specs.ScriptContent.{script_of}
 use Rattle.conf_text.specs.Configurations.{Configuration, IsConfOf}
 use Rattle.conf_text.specs.Contents.{configuration}
 use Rattle.conf_text.specs.declared.answers.ConfFault.{ConfFault}
-use Rattle.conf_text.proofs.OneLaws.{configuration_one}
+use Rattle.conf_laws.proofs.OneLaws.{configuration_one}
 use Rattle.made_script.specs.MadeLines.{made_lines}
 use Rattle.made_script.proofs.FitLines.{lines_fit}
 use Rattle.made_script.proofs.GoodConfLaws.{conf_is_good}

@@ -7,7 +7,7 @@ use Rattle.replay_text.specs.FirstFaults.{IsFault}
 use Rattle.replay_text.proofs.FaultLaws.{scripts_are_one}
 use Rattle.replay_text.specs.declared.script.ScriptFault.{ScriptFault}
 use Rattle.conf_text.specs.Configurations.{Configuration, IsConfOf}
-use Rattle.conf_text.proofs.OneLaws.{configuration_one}
+use Rattle.conf_laws.proofs.OneLaws.{configuration_one}
 use Rattle.conf_text.specs.declared.answers.ConfFault.{ConfFault}
 use Rattle.dhcpcd.specs.Refusals.{IsConfFault, IsNoScript}
 use Rattle.dhcpcd.specs.Replays.{IsScript, Spells, configuration_text}

@@ -11,7 +11,7 @@ use Rattle.conf_text.specs.Configurations.{Configuration, IsConfOf}
 use Rattle.conf_text.specs.Contents.{configuration}
 use Rattle.conf_text.specs.Fits.{AreInForce, FitsSpec}
 use Rattle.conf_text.specs.Settings.{managed_of}
-use Rattle.conf_text.proofs.ConfFits.{settings_fit}
+use Rattle.conf_laws.proofs.ConfFits.{settings_fit}
 use Rattle.dhcpcd.specs.declared.settling.Settled.{Settled}
 use Rattle.dhcpcd.specs.declared.status.Status.{Status}
 use Rattle.dhcpcd.specs.declared.status.Status.TheVariants as status

@@ -19,7 +19,7 @@ use Rattle.daemon.proofs.CutOffs.{front_none}
 use Rattle.daemon.proofs.Stretches.{lines_then}
 use Rattle.daemon.proofs.Fronts.{front_wider, front_then, front_of_life}
 use Rattle.world_mem.specs.LinkRecord.{LinkState}
-use Rattle.world_mem.specs.StoreRecord.{StoreState}
+use Rattle.world_mem.specs.StoreMem.StoreRecord.{StoreState}
 use Rattle.world_mem.specs.HookRecord.{HooksState}
 use Rattle.world_mem.specs.HostRecord.{HostState}
 use Rattle.dhcpcd.specs.Memory.{link_of}

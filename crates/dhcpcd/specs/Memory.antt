@@ -8,7 +8,7 @@ use Rattle.world.specs.HostCalls.{HostTold}
 use Rattle.world.specs.LinkCalls.{LinkTold}
 use Rattle.world.specs.StoreCalls.{StoreTold, store_holding}
 use Rattle.world_mem.specs.LinkRecord.{LinkState}
-use Rattle.world_mem.specs.StoreRecord.{StoreState, in_name_order}
+use Rattle.world_mem.specs.StoreMem.StoreRecord.{StoreState, in_name_order}
 use Rattle.world.specs.FileLists.{StoreFile}
 use Rattle.world_mem.specs.HookRecord.{HooksState}
 use Rattle.world_mem.specs.HostRecord.{HostState}

@@ -16,10 +16,10 @@ use Rattle.script_model.specs.FailingCalls.{failing_calls}
 use Rattle.script_model.specs.declared.crashing.CrashKind.{CrashKind}
 use Rattle.script_model.specs.declared.crashing.CrashKind.TheVariants as kind
 use Rattle.script_model.specs.Crashes.{CrashScript}
-use Rattle.world_mem.specs.declared.crashes.Pick.{Pick}
-use Rattle.world_mem.specs.declared.crashes.Pick.TheVariants as pick
-use Rattle.world_mem.specs.CrashRecord.{after_crash}
-use Rattle.world_mem.specs.Fuse.{first_stopped}
+use Rattle.world_mem.specs.StoreMem.declared.crashes.Pick.{Pick}
+use Rattle.world_mem.specs.StoreMem.declared.crashes.Pick.TheVariants as pick
+use Rattle.world_mem.specs.StoreMem.CrashRecord.{after_crash}
+use Rattle.world_mem.specs.StoreMem.Fuse.{first_stopped}
 use Rattle.script_model.specs.ScriptTexts.{ScriptLines, LifeScript, ended}
 use Rattle.script_model.specs.Lines.{Line}
 use Rattle.script_model.specs.Lines as lines

@@ -2,7 +2,7 @@
 ghost use Rattle.std.specs.Prelude.{◌≡◌, [], IfOk, All, map, option_map, length};
 ghost use Rattle.world.specs.Rows.{IsRow};
 ghost use Rattle.world_mem.specs.LinkRecord as memory;
-ghost use Rattle.world_mem.specs.StoreRecord as stores;
+ghost use Rattle.world_mem.specs.StoreMem.StoreRecord as stores;
 ghost use Rattle.replay_text.specs.ScriptContent as content;
 ghost use Rattle.script_model.specs.FirstFiles.{FitsFile};
 ghost use Rattle.script_model.specs.FailingCalls.{failing_calls, is_same_device};

@@ -8,7 +8,8 @@ ghost use Rattle.dhcpcd.specs.Replays.{configuration_text};
 ghost use Rattle.dhcpcd.specs.Settling.{IsRead, IsSettled, IsSettledAs};
 
 use crate::status::Status;
-use conf_text::{Conf, ConfAnswer, configuration_is_one, managed, read_conf};
+use conf_laws::configuration_is_one;
+use conf_text::{Conf, ConfAnswer, managed, read_conf};
 use replay_text::{Script, ScriptAnswer, read_script};
 use settings::Managed;
 use std::alloc::Global;

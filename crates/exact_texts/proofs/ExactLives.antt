@@ -13,7 +13,7 @@ use Rattle.world.specs.declared.wakes.Wake.{Wake}
 use Rattle.hook_child.specs.Supervision.{Supervision, numbered}
 use Rattle.settings.specs.Fitting.{AreManaged}
 use Rattle.settings.specs.declared.interfaces.Managed.{Managed}
-use Rattle.conf_text.proofs.ConfFits.{settings_fit}
+use Rattle.conf_laws.proofs.ConfFits.{settings_fit}
 use Rattle.client_model.specs.Clients.{ClientStep, rows_of}
 use Rattle.client_model.specs.IfaceTurns.{iface_turned}
 use Rattle.client_model.specs.Interfaces.{opened}

@@ -13,10 +13,10 @@ use Rattle.world.specs.HookCalls.{HooksTold, abandoned}
 use Rattle.world.specs.LinkCalls.{Given}
 use Rattle.world.specs.Rows.{IsRow}
 use Rattle.world.specs.StoreCalls.{StoreTold}
-use Rattle.world_mem.specs.CrashRecord.{after_crash}
-use Rattle.world_mem.specs.StoreRecord.{put_files}
-use Rattle.world_mem.specs.declared.crashes.Pick.{Pick}
-use Rattle.world_mem.specs.declared.crashes.Pick.TheVariants.{Old, New}
+use Rattle.world_mem.specs.StoreMem.CrashRecord.{after_crash}
+use Rattle.world_mem.specs.StoreMem.StoreRecord.{put_files}
+use Rattle.world_mem.specs.StoreMem.declared.crashes.Pick.{Pick}
+use Rattle.world_mem.specs.StoreMem.declared.crashes.Pick.TheVariants.{Old, New}
 use Rattle.script_model.specs.Crashes.{CrashScript}
 use Rattle.script_model.specs.FirstFiles.{FitsFile}
 use Rattle.script_model.specs.HookAnswers.{FitsAnswer}

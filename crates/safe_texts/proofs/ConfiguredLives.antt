@@ -12,7 +12,7 @@ use Rattle.net_types.specs.Marks.{IsPrintable, Lacks, is_printable}
 use Rattle.world.specs.HookCalls.{Job, Variable}
 use Rattle.settings.specs.Fitting.{AreManaged}
 use Rattle.settings.specs.declared.interfaces.Managed.{Managed}
-use Rattle.conf_text.proofs.ConfFits.{settings_fit}
+use Rattle.conf_laws.proofs.ConfFits.{settings_fit}
 use Rattle.v4_options.specs.declared.table.OptionRow.{OptionRow}
 use Rattle.v4_options.specs.declared.table.TheConstants.{OPTIONS}
 use Rattle.v4_options.specs.OptionTable.{option_name}

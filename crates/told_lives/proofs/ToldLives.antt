@@ -4,7 +4,7 @@ use Rattle.std.proofs.Common.{List}
 use Rattle.std.specs.List.{AllByRecursion}
 use Rattle.settings.specs.declared.interfaces.Managed.{Managed}
 use Rattle.conf_text.specs.Settings.{managed_of}
-use Rattle.conf_text.proofs.ConfFits.{settings_fit}
+use Rattle.conf_laws.proofs.ConfFits.{settings_fit}
 use Rattle.safe_texts.specs.ConfiguredTexts.{IsPlainlyConfigured}
 use Rattle.safe_texts.proofs.PlainConfigurations.{configured_texts_are_safe}
 use Rattle.told_lives.specs.Laws.{LivesAreWellTold}

@@ -1,9 +1,6 @@
 pub mod RowForms
 pub mod HostRecord
 pub mod LinkRecord
-pub mod Fuse
-pub mod CrashRecord
-pub mod StoreRecord
 pub mod HookRecord
 pub mod StreamRecord
-pub mod Replays
+pub use Rattle.store_mem.specs as StoreMem

@@ -4,7 +4,7 @@ ghost use Rattle.std.specs.Prelude.{◌≡◌, map, IfOk, IfErr};
 ghost use Rattle.world.specs.HookCalls.{job_of, variable_of};
 ghost use Rattle.world_mem.specs.HookRecord.{hooks_start};
 
-use crate::record::{Numbers, copy_text, enter, make_room, next_number};
+use call_record::{Numbers, copy_text, enter, make_room, next_number};
 use net_types::Failed;
 use std::alloc::Global;
 use std::marker::Model;

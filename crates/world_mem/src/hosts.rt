@@ -5,8 +5,8 @@ ghost use Rattle.std.specs.BTreeSet.{IsOrdered};
 ghost use Rattle.world.specs.Rows.{IsRow};
 ghost use Rattle.world.specs.RowOrder.{in_row_order, row_cmp};
 
-use crate::record::{Numbers, accept, enter, next_fails, refuse};
 use crate::small_rows::SmallRow;
+use call_record::{Numbers, accept, enter, next_fails, refuse};
 use std::alloc::Global;
 use std::collections::BTreeSet;
 use std::marker::Model;

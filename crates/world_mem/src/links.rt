@@ -5,7 +5,7 @@ ghost use Rattle.std.specs.Prelude.{◌≡◌, [], length, take, map};
 ghost use Rattle.world.specs.LinkCalls.{frame_len, cut_wake};
 ghost use Rattle.world_mem.specs.LinkRecord.{given_of, link_start};
 
-use crate::record::{Numbers, copy_bytes, enter, fill_front, make_room, next_number};
+use call_record::{Numbers, copy_bytes, enter, fill_front, make_room, next_number};
 use net_types::{Failed, IfIndex};
 use std::alloc::Global;
 use std::marker::Model;

@@ -5,7 +5,7 @@ ghost use Rattle.world.specs.Causes.{HasCause, HasDeviceCause};
 ghost use Rattle.world.specs.Streams.{Reads, Writes, count_after, taken_after};
 ghost use Rattle.world_mem.specs.StreamRecord.{SourceState, SinkState, call_fails, none_fails, next_call, calls_before, Counts, CountsWrite};
 
-use crate::record::{Numbers, fill_front};
+use call_record::{Numbers, fill_front};
 use net_types::Failed;
 use std::alloc::Global;
 use std::marker::Model;

@@ -1,6 +1,6 @@
 use Rattle.std.proofs.Common.{◌≡◌}
 use Rattle.std.specs.Prelude.{map}
-use Rattle.world_mem.specs.StoreRecord as stores
+use Rattle.world_mem.specs.StoreMem.StoreRecord as stores
 use Rattle.replay_text.specs.ScriptContent as content
 use Rattle.dhcpcd.proofs.memory.files_of.Given as goal
 

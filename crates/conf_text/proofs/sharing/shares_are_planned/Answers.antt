@@ -1,8 +1,0 @@
-use Rattle.conf_text.proofs.ShareLaws.{planned_are_taken, taken_are_planned}
-use Rattle.conf_text.proofs.sharing.shares_are_planned.Goals as goal
-
-pub returns-clause-taken : goal.returns-clause-taken
-returns-clause-taken c = taken_are_planned
-
-pub returns-clause-whole : goal.returns-clause-whole
-returns-clause-whole c = planned_are_taken

@@ -1,0 +1,4 @@
+mod FileMaps
+mod UndoMaps
+mod CrashSteps
+mod StoreSteps

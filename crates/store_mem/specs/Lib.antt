@@ -1,0 +1,4 @@
+pub mod Fuse
+pub mod CrashRecord
+pub mod StoreRecord
+pub mod Replays

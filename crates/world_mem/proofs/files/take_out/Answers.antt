@@ -1,7 +1,0 @@
-use Rattle.std.proofs.Common.{◌∙◌, ap, map}
-use Rattle.world_mem.specs.StoreRecord.{entry_file}
-use Rattle.world_mem.proofs.FileMaps.{map_drop}
-use Rattle.world_mem.proofs.files.take_out.Goals as goal
-
-pub returns : goal.returns
-returns c = ap (map entry_file) c.remove.ensures.entries ∙ map_drop c.args.name.now c.args.files.now.entries

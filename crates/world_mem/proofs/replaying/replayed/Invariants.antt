@@ -1,8 +1,0 @@
-use Rattle.std.proofs.Common.{take}
-use Rattle.world_mem.specs.StoreRecord.{UndoesNamed, told_after}
-use Rattle.world_mem.specs.Replays.{Mirrors}
-use Rattle.world_mem.proofs.replaying.replayed.Given as goal
-
-abbrev pub invariant-loop-entry : goal.invariant-loop-entry
-invariant-loop-entry l =
-    Mirrors l.replay (told_after l.first (take l.entry-index l.calls)) × UndoesNamed (told_after l.first (take l.entry-index l.calls))
