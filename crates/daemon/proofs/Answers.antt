@@ -7,7 +7,7 @@ use Rattle.world.specs.Causes.{Foretold, FailsAsTold, done_of}
 use Rattle.world.specs.StoreFails.{StoreFails, StoreForetold}
 use Rattle.world.specs.declared.rows.HostRow.{HostRow}
 use Rattle.world.specs.RowOrder.{in_row_order}
-use Rattle.world.specs.LinkCalls.{LinkTold, Offered, offered, Offers, send_number}
+use Rattle.world.specs.LinkCalls.{LinkTold, LinkCall, Offered, offered, Offers, AddsOffer, send_number}
 use Rattle.world.specs.HostCalls.{HostCall, HostTold, Listed, host_answered, host_number, Shows, ListsRows, ListsNone, Changes}
 use Rattle.world.specs.FileLists.{StoreFile, asides, file_at, rename_file}
 use Rattle.world.specs.FileNames.{aside_of}
@@ -58,6 +58,22 @@ offered_by iface frame failing old new (Err Answer.NoMemory) offers foretold = t
 pub unoffered : (iface : ℕ) (frame : List ℕ) (old new : Option LinkTold) → Offers {T = Unit {0}} iface frame old new no_memory → new ≡ old
 unoffered iface frame None new offers = offers
 unoffered iface frame (Some told) new offers = offers
+
+-- the calls by themselves
+pub offer_added : (iface : ℕ) (frame : List ℕ) (old new : Option (List LinkCall)) (answer : Result (Unit {0}) DeviceAnswer)
+    → AddsOffer iface frame old new answer → IfOk (done_of answer) (λ taken. Adds old new (Offered iface frame taken ∷ []))
+offer_added iface frame None new (Ok x) added = tt
+offer_added iface frame None new (Err Answer.Failed) added = tt
+offer_added iface frame (Some calls) new (Ok x) added =
+    subst (λ (n : Option (List LinkCall)). Adds (Some calls) n (Offered iface frame true ∷ [])) (sym added) refl
+offer_added iface frame (Some calls) new (Err Answer.Failed) added =
+    subst (λ (n : Option (List LinkCall)). Adds (Some calls) n (Offered iface frame false ∷ [])) (sym added) refl
+offer_added iface frame old new (Err Answer.NoMemory) added = tt
+
+pub no_offer_added : (iface : ℕ) (frame : List ℕ) (old new : Option (List LinkCall))
+    → AddsOffer {T = Unit {0}} iface frame old new no_memory → new ≡ old
+no_offer_added iface frame None new added = added
+no_offer_added iface frame (Some calls) new added = added
 
 -- ---- the host
 

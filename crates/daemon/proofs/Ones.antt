@@ -80,8 +80,11 @@ module _ {B : Type 0} (answer : B) where
       (by.0, ap (λ (n : Option HooksTold). world_from (Some link) (Some host) (Some store) (told_from n (Some failing))) by.1)
 
 -- the devices after a call of one
-abbrev with_link : Seen → Option LinkTold → (faults : ℕ) → Seen
-with_link seen told faults = record seen { link = record { told = told; failing = seen.link.failing; faults = faults } }
+abbrev with_link : Seen → Option LinkTold → Option (List LinkCall) → (faults : ℕ) → Seen
+with_link seen told calls faults = record seen {
+  link = record { told = told; failing = seen.link.failing; faults = faults };
+  link_calls = calls;
+}
 
 abbrev with_host : Seen → Option HostTold → (faults : ℕ) → Seen
 with_host seen told faults = record seen { host = record { told = told; failing = seen.host.failing; faults = faults } }
@@ -96,11 +99,12 @@ with_hooks seen told faults child = record seen {
 }
 
 -- what all tell after a call of one of them
-link_tells : (call : LinkCall) (seen : Seen) (new : Option LinkTold) (faults : ℕ)
-    → Adds (option_map (λ told. told.calls) seen.link.told) (option_map (λ told. told.calls) new) (call ∷ [])
-    → CountsFailed failed_send (call ∷ []) seen.link.faults faults → Tells seen (with_link seen new faults) (Link call ∷ [])
-link_tells call seen new faults adds counted = record {
+link_tells : (call : LinkCall) (seen : Seen) (new : Option LinkTold) (calls : Option (List LinkCall)) (faults : ℕ)
+    → Adds (option_map (λ told. told.calls) seen.link.told) (option_map (λ told. told.calls) new) (call ∷ []) → Adds seen.link_calls calls (call ∷ [])
+    → CountsFailed failed_send (call ∷ []) seen.link.faults faults → Tells seen (with_link seen new calls faults) (Link call ∷ [])
+link_tells call seen new calls faults adds added counted = record {
   link = adds;
+  link_calls = added;
   host = adds_none _;
   store = adds_none _;
   hooks = adds_none _;
@@ -122,6 +126,7 @@ host_tells : (call : HostCall) (seen : Seen) (new : Option HostTold) (faults : �
     → HostAnswered (call ∷ []) seen.host.told new → CountsFailed failed_host_call (call ∷ []) seen.host.faults faults → Tells seen (with_host seen new faults) (Host call ∷ [])
 host_tells call seen new faults adds table counted = record {
   link = adds_none _;
+  link_calls = adds_none seen.link_calls;
   host = adds;
   store = adds_none _;
   hooks = adds_none _;
@@ -144,6 +149,7 @@ store_tells : (call : StoreCall) (seen : Seen) (new : Option StoreTold) (faults 
     → Tells seen (with_store seen new faults) (Store call ∷ [])
 store_tells call seen new faults adds answers counted = record {
   link = adds_none _;
+  link_calls = adds_none seen.link_calls;
   host = adds_none _;
   store = adds;
   hooks = adds_none _;
@@ -165,6 +171,7 @@ hooks_tell : (number : ℕ) (call : HookCall) (seen : Seen) (new : Option HooksT
     → CountsFailed failed_hook_call (call ∷ []) seen.hooks.faults faults → Tells seen (with_hooks seen new faults child) (Hook number call ∷ [])
 hooks_tell number call seen new faults child adds counted = record {
   link = adds_none _;
+  link_calls = adds_none seen.link_calls;
   host = adds_none _;
   store = adds_none _;
   hooks = adds;
@@ -181,11 +188,11 @@ hooks_tell number call seen new faults child adds counted = record {
       };
 }
 
-pub one_offer : (iface : ℕ) (frame : List ℕ) (taken : Bool) (seen : Seen) (new : Option LinkTold) (faults : ℕ)
-    → OfferedBy iface frame taken seen.link.failing seen.link.told new
-    → CountsFailed failed_send (Offered iface frame taken ∷ []) seen.link.faults faults → One (Offer iface frame) taken seen (with_link seen new faults)
-one_offer iface frame taken seen new faults by counted = record {
-  tells = link_tells (Offered iface frame taken) seen new faults by.adds counted;
+pub one_offer : (iface : ℕ) (frame : List ℕ) (taken : Bool) (seen : Seen) (new : Option LinkTold) (calls : Option (List LinkCall)) (faults : ℕ)
+    → OfferedBy iface frame taken seen.link.failing seen.link.told new → Adds seen.link_calls calls (Offered iface frame taken ∷ [])
+    → CountsFailed failed_send (Offered iface frame taken ∷ []) seen.link.faults faults → One (Offer iface frame) taken seen (with_link seen new calls faults)
+one_offer iface frame taken seen new calls faults by added counted = record {
+  tells = link_tells (Offered iface frame taken) seen new calls faults by.adds added counted;
   foretold =
       link_told taken _ (offered iface frame taken) seen.link.failing seen.link.told new (told_of seen.host) (told_of seen.store)
       (told_of seen.hooks) by.foretold_is;
@@ -311,8 +318,9 @@ one_abandon number seen new faults child by counted = record {
 }
 
 -- where a device tells the same, all tell the same
-pub link_stays : (seen : Seen) (new : Option LinkTold) (faults : ℕ) → new ≡ seen.link.told → faults ≡ seen.link.faults → with_link seen new faults ≡ seen
-link_stays seen new faults told count = λ i. with_link seen (told i) (count i)
+pub link_stays : (seen : Seen) (new : Option LinkTold) (calls : Option (List LinkCall)) (faults : ℕ) → new ≡ seen.link.told → calls ≡ seen.link_calls
+    → faults ≡ seen.link.faults → with_link seen new calls faults ≡ seen
+link_stays seen new calls faults told added count = λ i. with_link seen (told i) (added i) (count i)
 
 pub host_stays : (seen : Seen) (new : Option HostTold) (faults : ℕ) → new ≡ seen.host.told → faults ≡ seen.host.faults → with_host seen new faults ≡ seen
 host_stays seen new faults told count = λ i. with_host seen (told i) (count i)
@@ -334,6 +342,7 @@ none_told answer seen (Some world) is = (refl, is)
 drop_tells : (job : Job) (seen : Seen) → Tells seen seen (Dropped job ∷ [])
 drop_tells job seen = record {
   link = adds_none _;
+  link_calls = adds_none seen.link_calls;
   host = adds_none _;
   store = adds_none _;
   hooks = adds_none _;

@@ -5,7 +5,7 @@ use Rattle.net_types.specs.declared.fault.Failed.{Failed}
 use Rattle.world.specs.declared.faults.DeviceAnswer.{DeviceAnswer}
 use Rattle.world.specs.declared.wakes.Begin.{Begin}
 use Rattle.world.specs.declared.wakes.Wake.{Wake}
-use Rattle.world.specs.LinkCalls.{Begins, Waits}
+use Rattle.world.specs.LinkCalls.{Begins, Waits, AddsWait}
 use Rattle.world.specs.Streams.{count_after}
 use Rattle.hook_child.specs.Supervision.{Supervision}
 use Rattle.device_calls.specs.Worlds.{Seen, Waiting}
@@ -33,11 +33,13 @@ KnowsChild hooks seen = seen.waiting.child ≡ is_some hooks.child
 -- the life was to begin once more
 pub record BeginsThere (old new : Seen) (result : Result Begin Failed) : Type 0 where
   pub told : Begins old.link.told new.link.told result
+  pub calls : new.link_calls ≡ old.link_calls
   pub counted : new.waiting.begins ≡ count_after old.waiting.begins
   pub only : OnlyLink old new
 
 pub record WaitsThere (until : Option ℕ) (old new : Seen) (buffer : List ℕ)
     (result : Result Wake DeviceAnswer) : Type 0 where
   pub told : Waits until old.link.told new.link.told buffer result
+  pub calls : AddsWait until old.link_calls new.link_calls buffer result
   pub begins : new.waiting.begins ≡ old.waiting.begins
   pub only : OnlyLink old new

@@ -11,6 +11,7 @@ ghost use Rattle.world.specs.HookCalls.{job_of, Started, Polled, Abandoned};
 ghost use Rattle.host_model.specs.HostTurn.{change_call};
 ghost use Rattle.file_choices.specs.StoreWalks.{Answered};
 ghost use Rattle.device_calls.specs.HostWalks.{HostAnswered};
+ghost use Rattle.device_calls.specs.Telling.{Adds};
 ghost use Rattle.device_calls.specs.Faults.{failed_send, failed_host_call, failed_store_call, failed_hook_call, CountsFailed};
 ghost use Rattle.lease_file.specs.FileReads.{got_reading};
 ghost use Rattle.daemon.specs.Answered.{rows_listed, names_of, FitsChange, OfferedBy, ListedBy, ChangedBy};
@@ -35,11 +36,13 @@ pub struct Devices<L, S, H, K> {
     pub hooks: K,
 }
 
-#[tactic(auto, using(crate::proofs::Answers::offered_by, crate::proofs::Answers::unoffered))]
+#[tactic(auto, using(crate::proofs::Answers::offered_by, crate::proofs::Answers::unoffered, crate::proofs::Answers::offer_added, crate::proofs::Answers::no_offer_added))]
 fn offer_to<L: Link>(link: &mut L, iface: IfIndex, frame: &[u8]) -> Result<bool, NoMemory>
     ensures offered { IfOk result
         (λ taken. OfferedBy iface.number frame.now taken (L.failing_sends link.old) (L.told link.old)
         (L.told link.new)) }
+    ensures added { IfOk result
+        (λ taken. Adds (L.calls link.old) (L.calls link.new) (Offered iface.number frame.now taken ∷ [])) }
     ensures counted { IfOk result
         (λ taken. CountsFailed failed_send (Offered iface.number frame.now taken ∷ []) (L.send_faults link.old)
         (L.send_faults link.new)) }
@@ -48,7 +51,8 @@ fn offer_to<L: Link>(link: &mut L, iface: IfIndex, frame: &[u8]) -> Result<bool,
     ensures waits { L.faults link.new ≡ L.faults link.old }
     ensures begins { L.begins link.new ≡ L.begins link.old }
     ensures memory { IfErr result
-        (λ _. (L.told link.new ≡ L.told link.old) × (L.send_faults link.new ≡ L.send_faults link.old)) }
+        (λ _. (L.told link.new ≡ L.told link.old)
+        × ((L.calls link.new ≡ L.calls link.old) × (L.send_faults link.new ≡ L.send_faults link.old))) }
 {
     done(link.send(iface, frame))
 }
@@ -272,6 +276,7 @@ fn abandon_of<K: Hooks>(hooks: &mut K)
 impl<L: Link, S: Store, H: Host, K: Hooks> Outside for Devices<L, S, H, K> {
     ghost seen = { λ d. record {
       link = record { told = L.told d.link; failing = L.failing_sends d.link; faults = L.send_faults d.link };
+      link_calls = L.calls d.link;
       host = record { told = H.told d.host; failing = H.failing d.host; faults = H.faults d.host };
       store = record { told = S.told d.store; failing = S.failing d.store; faults = S.faults d.store };
       hooks = record { told = K.told d.hooks; failing = K.failing d.hooks; faults = K.faults d.hooks };
