@@ -1,34 +1,12 @@
 -- Two calls that are made one after the other.
-use Rattle.std.proofs.Common.{◌≡◌, ℕ, Bool, true, false, cond, List, [], ◌∷◌, Option, None, Some, Result, Ok, refl, inl, take}
+use Rattle.std.proofs.Common.{◌≡◌, true, List, [], ◌∷◌, Option, None, Result, inl}
 use Rattle.std.specs.declared.io.ErrorKind.{ErrorKind}
+use Rattle.std.specs.declared.process.status.ExitStatus.{ExitStatus}
 use Rattle.system_calls.specs.Asking.{Does}
 use Rattle.system_calls.proofs.Doing.{then}
 use Rattle.edges.specs.ChildCalls.{ChildCall, Killed, Waited, Leaves}
-use Rattle.edges.specs.WireCalls.{WireCall, Limited, Received, Receives, is_from}
-use Rattle.std.specs.declared.net.socket_addr.SocketAddr.{SocketAddr}
-use Rattle.std.specs.declared.process.status.ExitStatus.{ExitStatus}
 
 pub ended_so : (answer : Result ExitStatus ErrorKind) (old mid new : Option (List ChildCall)) → Does (Killed None ∷ []) old mid
     → Does (Waited answer ∷ []) mid new
     → Leaves true old new
 ended_so answer old mid new killed waited = inl (answer, then (Waited answer) (Killed None ∷ []) old mid new killed waited)
-
--- what was received of the peer, or of another
-taken_or_not : (millis peer : ℕ) (buffer : List ℕ) (size : ℕ) (sender : SocketAddr) (is : Bool) (got : Option ℕ) (old mid new : Option (List WireCall))
-    → is_from peer sender ≡ is → got ≡ cond is (Some size) None → Does (Limited millis None ∷ []) old mid
-    → Does (Received (Ok (record { bytes = take size buffer; sender = sender })) ∷ []) mid new → Receives millis peer buffer old new (Ok got)
-taken_or_not millis peer buffer size sender true got old mid new from given limited received = rw given (record {
-  sender = sender;
-  is_peer = from;
-  asked = then (Received (Ok (record { bytes = take size buffer; sender = sender }))) (Limited millis None ∷ []) old mid new limited received;
-})
-taken_or_not millis peer buffer size sender false got old mid new from given limited received = rw given (inl (
-  record { bytes = take size buffer; sender = sender },
-  from,
-  then (Received (Ok (record { bytes = take size buffer; sender = sender }))) (Limited millis None ∷ []) old mid new limited received,
-))
-
-pub received_so : (millis peer : ℕ) (buffer : List ℕ) (size : ℕ) (sender : SocketAddr) (got : Option ℕ) (old mid new : Option (List WireCall))
-    → got ≡ cond (is_from peer sender) (Some size) None → Does (Limited millis None ∷ []) old mid
-    → Does (Received (Ok (record { bytes = take size buffer; sender = sender })) ∷ []) mid new → Receives millis peer buffer old new (Ok got)
-received_so millis peer buffer size sender got old mid new = taken_or_not millis peer buffer size sender (is_from peer sender) got old mid new refl

@@ -4,5 +4,3 @@ pub mod ScriptCalls
 pub mod TableSteps
 pub mod OneListing
 pub mod ListingRows
-pub mod WaitSteps
-pub mod WaitEnds

@@ -1,14 +1,12 @@
-//! What a machine is asked about a child process, one call of the system at a time, and how the end of a child is
-//! seen.
+//! What a machine is asked about a child process, one call of the system at a time.
 
-ghost use Rattle.std.specs.Prelude.{◌≡◌, ◌≢◌, ℕ, [], ◌∷◌, Bool, IfSome, List, Option, option_map};
+ghost use Rattle.std.specs.Prelude.{◌≡◌, ◌≢◌, ℕ, [], ◌∷◌, List, Option, option_map};
 ghost use Rattle.system_calls.specs.Asking.{Does, failure_of};
 ghost use Rattle.edges.specs.ChildCalls.{ChildCall, Started, Asked, Killed, Waited, Printed, start_of, printed};
 ghost use Rattle.world.specs.HookCalls.{HooksTold};
 ghost use Rattle.edges.specs.HookTellings.{Says, hook_noted};
 ghost use Rattle.edges.specs.HostNotes.{noted};
 ghost use Rattle.edges.specs.HostTables.{TablesHeld, Tells};
-ghost use Rattle.edges.specs.Waiting.{is_ended, seen_by};
 
 use std::io::ErrorKind;
 use std::process::{Command, ExitStatus, Output};
@@ -83,42 +81,4 @@ pub trait Children {
         ensures told { calls self.new ≡ calls self.old }
         ensures tables { tables self.new ≡ tables self.old }
         ensures hooks { hooks self.new ≡ option_map (hook_noted call.entry) (hooks self.old) };
-}
-
-/// What is seen of the child that hooks run.
-#[derive(Clone, Copy, PartialEq, Eq)]
-pub enum Seen {
-    NoChild,
-    Runs,
-    Ended,
-}
-
-/// What sees whether a child of this process has ended.
-pub trait Watch {
-    /// Whether a child has ended, where that is told.
-    ghost ended: { Self → Option Bool };
-
-    /// How the child ended: nothing while it runs. `None` where there is no child.
-    fn look(&self) -> Option<Result<Option<ExitStatus>, ErrorKind>>
-        ensures { IfSome (ended self.now) (λ is. is_ended (seen_by result) ≡ is) };
-}
-
-/// A child that can't be asked runs on.
-pub(crate) fn seen_by(asked: Option<Result<Option<ExitStatus>, ErrorKind>>) -> Seen
-    ensures { result ≡ seen_by asked }
-{
-    match asked {
-        None => Seen::NoChild,
-        Some(Ok(Some(_))) => Seen::Ended,
-        Some(_) => Seen::Runs,
-    }
-}
-
-pub(crate) fn is_ended(seen: Seen) -> bool
-    ensures { result ≡ is_ended seen }
-{
-    match seen {
-        Seen::NoChild | Seen::Runs => false,
-        Seen::Ended => true,
-    }
 }
