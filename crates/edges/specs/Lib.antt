@@ -1,7 +1,1 @@
-pub mod ChildCalls
-pub mod Listings
-pub mod HostScripts
-pub mod HostTables
-pub mod HostNotes
-pub mod HookTellings
 pub use Rattle.loop_link.specs.Ports

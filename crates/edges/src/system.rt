@@ -5,7 +5,7 @@ ghost use Rattle.std.specs.Prelude.{None};
 use crate::machine::{
     ChildWatch, NOT_OPEN, SystemChildren, SystemDisk, SystemLoopback, answer, named,
 };
-use crate::processes::{Children, HookNote, HostNote};
+use child_devices::{Children, HookNote, HostNote};
 use loop_link::{Loopback, Watch};
 use std::fs;
 use std::fs::OpenFile;
