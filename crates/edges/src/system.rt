@@ -2,11 +2,11 @@
 
 ghost use Rattle.std.specs.Prelude.{None};
 
-use crate::loopback::Loopback;
 use crate::machine::{
     ChildWatch, NOT_OPEN, SystemChildren, SystemDisk, SystemLoopback, answer, named,
 };
-use crate::processes::{Children, HookNote, HostNote, Watch};
+use child_devices::{Children, HookNote, HostNote};
+use loop_link::{Loopback, Watch};
 use std::fs;
 use std::fs::OpenFile;
 use std::io::{ErrorKind, Read, Write};

@@ -1,0 +1,3 @@
+pub mod ReceivedCalls
+pub mod WaitSteps
+pub mod WaitEnds
