@@ -17,7 +17,7 @@ use Rattle.device_calls.proofs.Running.{run_coming}
 use Rattle.turn_model.specs.Turns.{Life, turn_asks, until, is_over, is_end}
 use Rattle.turn_model.specs.Lives.{Met, met_with, turn_lines, turn_calls}
 use Rattle.turn_model.specs.Foretold.{told_wake, told_bytes, woken, met_of, ran_turn, told_turns, told_after, foretold_turns, left_in}
-use Rattle.daemon.specs.Waits.{WaitsThere}
+use Rattle.life_devices.specs.Waits.{WaitsThere}
 use Rattle.daemon.specs.Streams.{WritesBytes, WritesLines}
 use Rattle.daemon.specs.Serving.{MakesTurn, told_last, AreFirst, Goes, Ends}
 use Rattle.daemon.proofs.Waitings.{woke, is_end-cut, Woke, woke_world, wait_tells, last_wait_tells, same_but_link}

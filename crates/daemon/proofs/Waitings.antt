@@ -23,7 +23,7 @@ use Rattle.device_calls.proofs.HostWalking.{host_answered_none}
 use Rattle.device_calls.proofs.Doing.{adds_none, answered_none, counts_none}
 use Rattle.turn_model.specs.Turns.{is_end}
 use Rattle.turn_model.specs.Foretold.{told_wake, told_bytes, woken}
-use Rattle.daemon.specs.Waits.{OnlyLink, BeginsThere, WaitsThere}
+use Rattle.life_devices.specs.Waits.{OnlyLink, BeginsThere, WaitsThere}
 
 abbrev pub woke : Wake → Result Wake DeviceAnswer
 woke wake = Ok wake
