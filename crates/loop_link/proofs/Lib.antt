@@ -1,3 +1,4 @@
 pub mod ReceivedCalls
 pub mod WaitSteps
 pub mod WaitEnds
+pub mod Notes

@@ -15,7 +15,7 @@ one_more true bytes all later earlier e = ap (λ xs. bytes ∷ xs) e
 one_more false bytes all later earlier e = e
 
 -- what was heard in calls, and in those before them
-heard_behind : (peer : ℕ) (later earlier : List WireCall) → heard_from peer (later ++ earlier) ≡ heard_from peer later ++ heard_from peer earlier
+pub heard_behind : (peer : ℕ) (later earlier : List WireCall) → heard_from peer (later ++ earlier) ≡ heard_from peer later ++ heard_from peer earlier
 heard_behind peer [] earlier = refl
 heard_behind peer (Received (Ok datagram) ∷ later) earlier =
     one_more (is_from peer datagram.sender) datagram.bytes (heard_from peer (later ++ earlier)) (heard_from peer later) (heard_from peer earlier)

@@ -5,3 +5,4 @@ pub mod Moments
 pub mod Waiting
 pub mod WireCalls
 pub mod Waits
+pub mod LinkNotes

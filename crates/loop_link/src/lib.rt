@@ -12,6 +12,6 @@ mod watching;
 
 pub use constants::{datagrams_are_these, loopback_is_this, salts_are_these};
 pub use links::LoopLink;
-pub use loopback::Loopback;
+pub use loopback::{LinkNote, Loopback};
 pub use salts::Salts;
 pub use watching::{Seen, Watch};

@@ -1,16 +1,17 @@
 //! The interfaces as datagrams between two ports of the loopback address, and the waits for what comes there.
 
-ghost use Rattle.std.specs.Prelude.{◌≡◌, ◌<◌, ◌≤◌, ◌-◌, ◌^◌, true, false, length, None, Some, if◌then◌else◌, IfOk, IfSome, OnErr};
+ghost use Rattle.std.specs.Prelude.{◌≡◌, ◌<◌, ◌≤◌, ◌-◌, ◌^◌, true, false, length, None, Some, if◌then◌else◌, option_map, IfOk, IfSome, OnErr};
 ghost use Rattle.loop_link.specs.Ports.{port_named};
 ghost use Rattle.loop_link.specs.Waiting.{wait_end, piece_of, glancing, is_over, last_told, has_come, IsOver, IsDue, IsDueBy, IsAwaited};
 ghost use Rattle.world.specs.Causes.{HasCause, HasDeviceCause};
 ghost use Rattle.loop_link.specs.WireCalls.{BeginsLife, Binds, Receives, Sends, is_from};
+ghost use Rattle.loop_link.specs.LinkNotes.{RestsOn, noted};
 ghost use Rattle.loop_link.specs.Waits.{HearsNone, Brings, BringsYet};
-ghost use Rattle.world.specs.LinkCalls.{frame_len};
+ghost use Rattle.world.specs.LinkCalls.{frame_len, AddsWait, AddsOffer};
 ghost use Rattle.world.specs.Streams.{count_after};
 
 use crate::datagrams::{FRAME_LIMIT, HEAD, frame_datagram, taken};
-use crate::loopback::{LOOPBACK, Loopback};
+use crate::loopback::{LOOPBACK, LinkNote, Loopback};
 use crate::moments::Moments;
 use crate::salts::Salts;
 use crate::watching::{Seen, Watch, is_ended, seen_by};
@@ -131,6 +132,7 @@ impl<L: Loopback + Drop, W: Watch + Drop> Wire<L, W> {
         ensures bound { IfOk result (λ _. self.new.bound ≡ true) }
         ensures ports { (self.new.port ≡ self.old.port) × (self.new.peer ≡ self.old.peer) }
         ensures asked { Binds self.old.bound self.old.port (L.calls self.old.line) (L.calls self.new.line) result }
+        ensures link { L.link self.new.line ≡ L.link self.old.line }
     {
         if self.bound {
             return Ok(());
@@ -148,6 +150,7 @@ impl<L: Loopback + Drop, W: Watch + Drop> Wire<L, W> {
     fn begin(&mut self) -> Result<Begin, Failed>
         ensures asked { IfOk result
             (λ begin. BeginsLife self.old.bound self.old.port begin (L.calls self.old.line) (L.calls self.new.line)) }
+        ensures link { L.link self.new.line ≡ L.link self.old.line }
     {
         self.bind()?;
         let moments = Moments::begin(&mut self.line)?;
@@ -169,6 +172,7 @@ impl<L: Loopback + Drop, W: Watch + Drop> Wire<L, W> {
         ensures kept { self.new.salts ≡ self.old.salts }
         ensures quiet { IfOk result
             (λ _. HearsNone self.old.peer (L.calls self.old.line) (L.calls self.new.line)) }
+        ensures link { L.link self.new.line ≡ L.link self.old.line }
     {
         match &mut self.moments {
             Some(moments) => moments.now(&mut self.line),
@@ -183,6 +187,7 @@ impl<L: Loopback + Drop, W: Watch + Drop> Wire<L, W> {
         ensures watch { (self.new.watch ≡ self.old.watch) × (self.new.moments ≡ self.old.moments) }
         ensures asked { Receives piece self.old.peer datagram.new (L.calls self.old.line)
             (L.calls self.new.line) result }
+        ensures link { L.link self.new.line ≡ L.link self.old.line }
     {
         let Ok(()) = self.line.limit(piece) else {
             return Err(Failed);
@@ -201,6 +206,7 @@ impl<L: Loopback + Drop, W: Watch + Drop> Wire<L, W> {
         ensures brings { IfOk result
             (λ heard. BringsYet self.old.peer ⊥ heard (length buf.old) buf.new (L.calls self.old.line)
             (L.calls self.new.line)) }
+        ensures link { L.link self.new.line ≡ L.link self.old.line }
     {
         // one byte more than the longest, so that a longer one is told from it
         let mut datagram = [0; HEAD + FRAME_LIMIT + 1];
@@ -224,6 +230,7 @@ impl<L: Loopback + Drop, W: Watch + Drop> Wire<L, W> {
         ensures come { IfOk result (λ come. come ≡ has_come end self.new.moments) }
         ensures quiet { IfOk result
             (λ _. HearsNone self.old.peer (L.calls self.old.line) (L.calls self.new.line)) }
+        ensures link { L.link self.new.line ≡ L.link self.old.line }
     {
         Ok(end <= self.moment()?)
     }
@@ -235,6 +242,7 @@ impl<L: Loopback + Drop, W: Watch + Drop> Wire<L, W> {
         ensures over { IfOk result (λ over. IsOver (W.ended self.old.watch) end self.new.moments over) }
         ensures quiet { IfOk result
             (λ _. HearsNone self.old.peer (L.calls self.old.line) (L.calls self.new.line)) }
+        ensures link { L.link self.new.line ≡ L.link self.old.line }
     {
         if self.sees_end() {
             return Ok(true);
@@ -251,6 +259,7 @@ impl<L: Loopback + Drop, W: Watch + Drop> Wire<L, W> {
         ensures brings { IfOk result
             (λ heard. BringsYet self.old.peer (IsDue (W.ended self.old.watch) end self.new.moments) heard
             (length buf.old) buf.new (L.calls self.old.line) (L.calls self.new.line)) }
+        ensures link { L.link self.new.line ≡ L.link self.old.line }
     {
         let left = end.saturating_sub(self.moment()?);
         let piece = glancing(seen_by(self.watch.look()), piece_of(left));
@@ -267,6 +276,7 @@ impl<L: Loopback + Drop, W: Watch + Drop> Wire<L, W> {
             (λ event. Brings self.old.peer (IsDueBy (W.ended self.old.watch) until self.new.moments)
             (record { event = event; room = length buf.old; buffer = buf.new }) (L.calls self.old.line)
             (L.calls self.new.line)) }
+        ensures link { L.link self.new.line ≡ L.link self.old.line }
     {
         let end = wait_end(until, self.moment()?);
         'pieces: for _ in 0..u64::MAX {
@@ -280,10 +290,12 @@ impl<L: Loopback + Drop, W: Watch + Drop> Wire<L, W> {
 
     fn wait(&mut self, until: Option<u64>, buf: &mut [u8]) -> Result<Wake, Failed>
         ensures room { IfOk result (λ wake. frame_len wake.event ≤ length buf.new) }
+        ensures peer { IfOk result (λ _. self.new.peer ≡ self.old.peer) }
         ensures brings { IfOk result
             (λ wake. Brings self.old.peer (IsAwaited (W.ended self.old.watch) until wake.at)
             (record { event = wake.event; room = length buf.old; buffer = buf.new }) (L.calls self.old.line)
             (L.calls self.new.line)) }
+        ensures link { L.link self.new.line ≡ L.link self.old.line }
     {
         let event = self.next_event(until, buf)?;
         let at = self.moment()?;
@@ -296,8 +308,10 @@ impl<L: Loopback + Drop, W: Watch + Drop> Wire<L, W> {
 
     /// Sends the datagram of a frame to the peer.
     fn send(&mut self, iface: IfIndex, frame: &[u8]) -> Result<(), DeviceAnswer>
+        ensures peer { self.new.peer ≡ self.old.peer }
         ensures asked { Sends iface.number frame.now self.old.peer (L.calls self.old.line) (L.calls self.new.line)
             result }
+        ensures link { L.link self.new.line ≡ L.link self.old.line }
     {
         let Ok(iface) = u8::try_from(iface.number) else {
             return Err(DeviceAnswer::Failed);
@@ -309,6 +323,15 @@ impl<L: Loopback + Drop, W: Watch + Drop> Wire<L, W> {
             Ok(_) => Ok(()),
             Err(_) => Err(DeviceAnswer::Failed),
         }
+    }
+
+    /// Notes a call of the link.
+    fn note(&mut self, call: LinkNote<'_>)
+        requires { RestsOn self.old.peer call (L.calls self.old.line) }
+        ensures told { L.calls self.new.line ≡ L.calls self.old.line }
+        ensures link { L.link self.new.line ≡ option_map (noted call.entry) (L.link self.old.line) }
+    {
+        self.line.note(self.peer, call);
     }
 }
 
@@ -377,6 +400,8 @@ impl<L: Loopback + Drop, W: Watch + Drop> Link for LoopLink<L, W> {
 
     ghost told = { λ link. None };
 
+    ghost calls = { λ link. L.link link.wire.line };
+
     ghost failing_waits = { λ link. None };
 
     ghost failing_sends = { λ link. None };
@@ -385,6 +410,7 @@ impl<L: Loopback + Drop, W: Watch + Drop> Link for LoopLink<L, W> {
         ensures cause { HasCause self.old.faults.count self.new.faults.count result }
         ensures no_send { self.new.send_faults ≡ self.old.send_faults }
         ensures counted { self.new.begins ≡ count_after self.old.begins }
+        ensures calls { L.link self.new.wire.line ≡ L.link self.old.wire.line }
         ensures asked { self.old.faults.count < 2 ^ 64 - 1
             → IfOk result
             (λ begin. BeginsLife self.old.wire.bound self.old.wire.port begin (L.calls self.old.wire.line)
@@ -406,27 +432,47 @@ impl<L: Loopback + Drop, W: Watch + Drop> Link for LoopLink<L, W> {
         ensures no_send { self.new.send_faults ≡ self.old.send_faults }
         ensures no_begin { self.new.begins ≡ self.old.begins }
         ensures room { IfOk result (λ wake. frame_len wake.event ≤ length buf.new) }
+        ensures calls { AddsWait until (L.link self.old.wire.line) (L.link self.new.wire.line) buf.new result }
         ensures brings { IfOk result
             (λ wake. Brings self.old.wire.peer (IsAwaited (W.ended self.old.wire.watch) until wake.at)
             (record { event = wake.event; room = length buf.old; buffer = buf.new }) (L.calls self.old.wire.line)
             (L.calls self.new.wire.line)) }
     {
         match self.wire.wait(until, buf) {
-            Ok(wake) => Ok(wake),
-            Err(Failed) => Err(self.faults.counted(DeviceAnswer::Failed)),
+            Ok(wake) => {
+                self.wire.note(LinkNote::Woke(until, wake, buf));
+                Ok(wake)
+            }
+            Err(Failed) => {
+                let answer = self.faults.counted(DeviceAnswer::Failed);
+                if let DeviceAnswer::Failed = answer {
+                    self.wire.note(LinkNote::NotWoken(until));
+                }
+                Err(answer)
+            }
         }
     }
 
     fn send(&mut self, iface: IfIndex, frame: &[u8]) -> Result<(), DeviceAnswer>
         ensures cause { HasDeviceCause self.old.send_faults.count self.new.send_faults.count result }
         ensures no_wait { (self.new.faults ≡ self.old.faults) × (self.new.begins ≡ self.old.begins) }
+        ensures calls { AddsOffer iface.number frame.now (L.link self.old.wire.line) (L.link self.new.wire.line)
+            result }
         ensures asked { Sends iface.number frame.now self.old.wire.peer (L.calls self.old.wire.line)
             (L.calls self.new.wire.line) result }
     {
         self.send_faults.room()?;
         match self.wire.send(iface, frame) {
-            Ok(()) => Ok(()),
-            Err(answer) => Err(self.send_faults.counted(answer)),
+            Ok(()) => {
+                self.wire.note(LinkNote::Sent(iface.number, frame));
+                Ok(())
+            }
+            Err(DeviceAnswer::Failed) => {
+                let answer = self.send_faults.counted(DeviceAnswer::Failed);
+                self.wire.note(LinkNote::Unsent(iface.number, frame));
+                Err(answer)
+            }
+            Err(DeviceAnswer::NoMemory) => Err(DeviceAnswer::NoMemory),
         }
     }
 }

@@ -33,7 +33,8 @@ fn since_1970(time: SystemTime) -> Result<Duration, Failed>
 
 /// The moment of the wall clock, in milliseconds since 1970.
 fn wall_moment<L: Loopback>(line: &mut L) -> Result<u64, Failed>
-    ensures { IfOk result (λ moment. ReadsWall moment (L.calls line.old) (L.calls line.new)) }
+    ensures read { IfOk result (λ moment. ReadsWall moment (L.calls line.old) (L.calls line.new)) }
+    ensures link { L.link line.new ≡ L.link line.old }
 {
     match line.wall() {
         Ok(now) => millis(since_1970(now)?),
@@ -43,8 +44,9 @@ fn wall_moment<L: Loopback>(line: &mut L) -> Result<u64, Failed>
 
 /// The clock that nobody sets, and that doesn't go back.
 fn steady_now<L: Loopback>(line: &mut L) -> Result<Instant, Failed>
-    ensures { IfOk result
+    ensures read { IfOk result
         (λ now. Does (SteadyRead (Ok (instant_nanos now)) ∷ []) (L.calls line.old) (L.calls line.new)) }
+    ensures link { L.link line.new ≡ L.link line.old }
 {
     match line.steady() {
         Ok(now) => Ok(now),
@@ -69,6 +71,7 @@ impl Moments {
         ensures begun { IfOk result
             (λ moments. BeginsWith moments.begun (instant_nanos moments.since) (L.calls line.old)
             (L.calls line.new)) }
+        ensures link { L.link line.new ≡ L.link line.old }
     {
         let begun = wall_moment(line)?;
         let since = steady_now(line)?;
@@ -113,6 +116,7 @@ impl Moments {
         ensures read { IfOk result
             (λ at. TellsMoment at self.old.last self.old.begun (instant_nanos self.old.since) (L.calls line.old)
             (L.calls line.new)) }
+        ensures link { L.link line.new ≡ L.link line.old }
     {
         let now = steady_now(line)?;
         Ok(self.tell(now))
