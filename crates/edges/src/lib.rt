@@ -13,7 +13,8 @@ mod system;
 pub use child_devices::{ChildHooks, Children, CommandHost, HookNote, HostNote};
 pub use folder_store::{FolderStore, savings_are_whole};
 pub use loop_link::{
-    LoopLink, Loopback, Salts, Watch, datagrams_are_these, loopback_is_this, salts_are_these,
+    LinkNote, LoopLink, Loopback, Salts, Watch, datagrams_are_these, loopback_is_this,
+    salts_are_these,
 };
 pub use machine::{ChildWatch, SystemChildren, SystemDisk, SystemLoopback};
 pub use streams::{StdSink, StdSource};
