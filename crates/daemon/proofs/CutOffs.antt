@@ -19,7 +19,7 @@ use Rattle.turn_model.specs.LifeFronts.{BeginsTurn}
 use Rattle.turn_model.specs.Foretold.{foretold_turns}
 use Rattle.daemon.specs.declared.serving.ServeEnd.{ServeEnd}
 use Rattle.daemon.specs.declared.serving.ServeEnd.TheVariants as ends
-use Rattle.daemon.specs.Waits.{WaitsThere}
+use Rattle.life_devices.specs.Waits.{WaitsThere}
 use Rattle.daemon.specs.Streams.{WritesLines, WritesSome, WritesFront}
 use Rattle.daemon.specs.Serving.{MakesTurn, AreWhole, Goes, Ends, HasServeCause}
 use Rattle.daemon.specs.Cuts.{Between, InTurn, AtEnd, cut_lines, cut_turns, turns_left, CutsAt, wakes_asked, HandledAll, WaitFails, BreaksOff}

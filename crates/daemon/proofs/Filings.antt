@@ -24,7 +24,7 @@ use Rattle.exact_texts.specs.FileEvidence.WholeFiles.{FilesStayWhole}
 use Rattle.exact_texts.proofs.FileEvidence.KeepingTurns.{life_stays_whole}
 use Rattle.daemon.specs.declared.serving.ServeEnd.{ServeEnd}
 use Rattle.daemon.specs.declared.serving.ServeEnd.TheVariants as ends
-use Rattle.daemon.specs.Waits.{OnlyLink}
+use Rattle.life_devices.specs.Waits.{OnlyLink}
 use Rattle.daemon.specs.Serving.{HasLifeCause}
 use Rattle.daemon.specs.Served.{Begun, Served}
 use Rattle.daemon.specs.Cuts.{CutAt, Between, InTurn, AtEnd, cut_turns, CutsAt, CutOpening, CutLife, FailsToBegin, BeginsOpening, Leaves}

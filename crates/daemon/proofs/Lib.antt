@@ -1,18 +1,7 @@
-pub mod Answers
-pub mod Ones
 pub mod Printings
 pub mod Causes
-pub mod Parts
-pub mod HostSteps
-pub mod Hookings
 pub mod OpeningSteps
-pub mod Bringing
-pub mod Begins
-pub mod BegunParts
-pub mod BegunFiles
 pub mod BegunTurns
-pub mod KeptFiles
-pub mod LoadedFiles
 pub mod StopMoments
 pub mod TurnSteps
 pub mod Waitings
@@ -21,7 +10,6 @@ pub mod Stretches
 pub mod CutOffs
 pub mod Fronts
 mod AskedAlike
-mod FileNames
 pub mod Wakings
 pub mod Filings
 pub mod ToldLives

@@ -3,7 +3,7 @@ use Rattle.std.proofs.Common.{ℕ, ◌≡◌, Bool, true, false, cond, ◌||◌,
 use Rattle.std.specs.Prelude.{IfSome, option_map}
 use Rattle.world.specs.declared.wakes.Wake.{Wake}
 use Rattle.world.specs.StoreFails.{StoreFails}
-use Rattle.world.specs.LinkCalls.{LinkTold, Given, Waited, frame_len, Comes, Waits}
+use Rattle.world.specs.LinkCalls.{LinkTold, Given, Waited, given_in, frame_len, Comes, Waits}
 use Rattle.world.specs.HostCalls.{HostTold}
 use Rattle.world.specs.StoreCalls.{StoreTold}
 use Rattle.world.specs.HookCalls.{HooksTold}
@@ -17,10 +17,10 @@ use Rattle.device_calls.proofs.Running.{run_coming}
 use Rattle.turn_model.specs.Turns.{Life, turn_asks, until, is_over, is_end}
 use Rattle.turn_model.specs.Lives.{Met, met_with, turn_lines, turn_calls}
 use Rattle.turn_model.specs.Foretold.{told_wake, told_bytes, woken, met_of, ran_turn, told_turns, told_after, foretold_turns, left_in}
-use Rattle.daemon.specs.Waits.{WaitsThere}
+use Rattle.life_devices.specs.Waits.{WaitsThere}
 use Rattle.daemon.specs.Streams.{WritesBytes, WritesLines}
 use Rattle.daemon.specs.Serving.{MakesTurn, told_last, AreFirst, Goes, Ends}
-use Rattle.daemon.proofs.Waitings.{woke, is_end-cut, Woke, woke_world, wait_tells, Gave, gave, link_alone, same_but_link}
+use Rattle.daemon.proofs.Waitings.{woke, is_end-cut, Woke, woke_world, wait_tells, last_wait_tells, same_but_link}
 use Rattle.daemon.proofs.Stretches.{lines_none, text_written}
 
 or_false : (a b : Bool) → a ≡ false → b ≡ false → (a || b) ≡ false
@@ -182,16 +182,15 @@ pub wait_ends : (managed : List Managed) (life : Life) (wake : Wake) (buffer : L
     → is_over life ≡ false → asked ≡ until life → is_end wake.event ≡ true → WaitsThere asked old mid buffer (woke wake)
     → Ends 1 managed life old out life mid out
 wait_ends managed life wake buffer asked old mid out going asked_is end waits =
-    let it : Gave asked wake old.link.told mid.link.told = gave asked wake buffer old.link.told mid.link.told waits.told in
     record {
       mets = [];
       turns = tt;
       within = omega arith;
       after = refl;
       written = lines_none out;
-      last = Link (Waited asked (Some it.given)) ∷ [];
-      last_is = (going, asked_is, ap (λ (k : Wake). is_end k.event) it.its_wake ∙ end);
-      tells = link_alone old mid asked (Some it.given) waits.only waits.begins it.adds;
+      last = Link (Waited asked (Some (given_in buffer wake))) ∷ [];
+      last_is = (going, asked_is, end);
+      tells = last_wait_tells asked wake buffer old mid waits;
       whole =
           last_at managed life wake buffer asked old.link.told mid.link.told old.link.failing (told_of old.host) (told_of old.store)
           (told_of old.hooks) end waits.told;

@@ -25,7 +25,7 @@ use Rattle.turn_model.specs.KeptFiles.{KeptFile, keeping}
 use Rattle.turn_model.specs.Loading.{FilesLoaded, loading_files}
 use Rattle.turn_model.specs.Turns.{Life, Outlook, offering, hosting, acting, turn_asks, input_of, step_of, outlook_with, turn_moment, stop_after, until}
 use Rattle.turn_model.specs.Opening.{clearing, outlook_from, opening_step, opening_asks}
-use Rattle.daemon.specs.Loading.{LoadsAll}
+use Rattle.life_files.specs.Loading.{LoadsAll}
 use Rattle.daemon.specs.Serving.{MakesTurn, MakesOpening}
 
 -- a life as a turn leaves it

@@ -9,7 +9,7 @@ use Rattle.world.specs.declared.wakes.Wake.{Wake}
 use Rattle.world.specs.declared.wakes.Event.{Event}
 use Rattle.world.specs.declared.wakes.Event.TheVariants.{Frame, Carrier, Duplicate, Release, Rebind, Stop, Quiet, End}
 use Rattle.world.specs.StoreFails.{StoreFails}
-use Rattle.world.specs.LinkCalls.{LinkCall, LinkTold, Given, Waited, frame_len, cut_event, cut_wake, Comes, Waits, Begins}
+use Rattle.world.specs.LinkCalls.{LinkCall, LinkTold, Given, Waited, waited, frame_len, cut_event, cut_wake, Comes, Waits, Begins, AddsWait, given_in}
 use Rattle.world.specs.HostCalls.{HostTold}
 use Rattle.world.specs.StoreCalls.{StoreTold}
 use Rattle.world.specs.HookCalls.{HooksTold}
@@ -23,7 +23,7 @@ use Rattle.device_calls.proofs.HostWalking.{host_answered_none}
 use Rattle.device_calls.proofs.Doing.{adds_none, answered_none, counts_none}
 use Rattle.turn_model.specs.Turns.{is_end}
 use Rattle.turn_model.specs.Foretold.{told_wake, told_bytes, woken}
-use Rattle.daemon.specs.Waits.{OnlyLink, BeginsThere, WaitsThere}
+use Rattle.life_devices.specs.Waits.{OnlyLink, BeginsThere, WaitsThere}
 
 abbrev pub woke : Wake → Result Wake DeviceAnswer
 woke wake = Ok wake
@@ -37,6 +37,9 @@ not_begun failed = Err failed
 abbrev pub wait_failed : Result Wake DeviceAnswer
 wait_failed = Err Answer.Failed
 
+abbrev pub memory_wanted : Result Wake DeviceAnswer
+memory_wanted = Err Answer.NoMemory
+
 -- cutting a frame doesn't make an end of it
 pub is_end-cut : (event : Event) (size room : ℕ) → is_end (cut_event event size room) ≡ is_end event
 is_end-cut (Frame i n) size room = refl
@@ -49,8 +52,9 @@ is_end-cut Quiet size room = refl
 is_end-cut End size room = refl
 
 -- what is told and counted where one call of the link, or none, was made: of the others nothing
-abbrev LinkAdds : Seen → Seen → List LinkCall → Type 0
-LinkAdds old mid calls = Adds (option_map (λ t. t.calls) old.link.told) (option_map (λ t. t.calls) mid.link.told) calls
+pub record LinkAdds (old mid : Seen) (calls : List LinkCall) : Type 0 where
+  pub told : Adds (option_map (λ t. t.calls) old.link.told) (option_map (λ t. t.calls) mid.link.told) calls
+  pub added : Adds old.link_calls mid.link_calls calls
 
 others_answer : (old mid : Seen) → OnlyLink old mid → Answered old.store.failing [] old.store.told mid.store.told
 others_answer old mid only =
@@ -66,7 +70,8 @@ counts_stay failed old new same = subst (CountsFailed failed [] old) (sym same) 
 pub link_alone : (old mid : Seen) (asked : Option ℕ) (given : Option Given) → OnlyLink old mid → mid.waiting.begins ≡ old.waiting.begins
     → LinkAdds old mid (Waited asked given ∷ []) → Tells old mid (Link (Waited asked given) ∷ [])
 link_alone old mid asked given only begins adds = record {
-  link = adds;
+  link = adds.told;
+  link_calls = adds.added;
   host = subst (λ h. Adds (option_map (λ t. t.calls) old.host.told) (option_map (λ t. t.calls) h.told) []) (sym only.host) (adds_none _);
   store = subst (λ s. Adds (option_map (λ t. t.calls) old.store.told) (option_map (λ t. t.calls) s.told) []) (sym only.store) (adds_none _);
   hooks = subst (λ h. Adds (option_map (λ t. t.calls) old.hooks.told) (option_map (λ t. t.calls) h.told) []) (sym only.hooks) (adds_none _);
@@ -84,7 +89,8 @@ link_alone old mid asked given only begins adds = record {
 
 link_quiet : (old mid : Seen) → OnlyLink old mid → mid.waiting.begins ≡ old.waiting.begins → LinkAdds old mid [] → Tells old mid []
 link_quiet old mid only begins adds = record {
-  link = adds;
+  link = adds.told;
+  link_calls = adds.added;
   host = subst (λ h. Adds (option_map (λ t. t.calls) old.host.told) (option_map (λ t. t.calls) h.told) []) (sym only.host) (adds_none _);
   store = subst (λ s. Adds (option_map (λ t. t.calls) old.store.told) (option_map (λ t. t.calls) s.told) []) (sym only.store) (adds_none _);
   hooks = subst (λ h. Adds (option_map (λ t. t.calls) old.hooks.told) (option_map (λ t. t.calls) h.told) []) (sym only.hooks) (adds_none _);
@@ -99,6 +105,25 @@ link_quiet old mid only begins adds = record {
     hooks = counts_stay failed_hook_call old.hooks.faults mid.hooks.faults (ap (λ (h : Device HooksTold (List ℕ)). h.faults) only.hooks);
   };
 }
+
+-- the calls of the link by themselves: a wait is one of them, unless it wanted memory
+abbrev call_added : List LinkCall → LinkCall → Option (List LinkCall) → Type 0
+call_added calls call mid = Adds (Some calls) mid (call ∷ [])
+
+wake_added : (asked : Option ℕ) (wake : Wake) (buffer : List ℕ) (old mid : Option (List LinkCall)) → AddsWait asked old mid buffer (woke wake)
+    → Adds old mid (Waited asked (Some (given_in buffer wake)) ∷ [])
+wake_added asked wake buffer None mid added = tt
+wake_added asked wake buffer (Some calls) mid added = subst (call_added calls (Waited asked (Some (given_in buffer wake)))) (sym added) refl
+
+failed_added : (asked : Option ℕ) (buffer : List ℕ) (old mid : Option (List LinkCall)) → AddsWait asked old mid buffer wait_failed
+    → Adds old mid (Waited asked None ∷ [])
+failed_added asked buffer None mid added = tt
+failed_added asked buffer (Some calls) mid added = subst (call_added calls (Waited asked None)) (sym added) refl
+
+memory_added : (asked : Option ℕ) (buffer : List ℕ) (old mid : Option (List LinkCall)) → AddsWait asked old mid buffer memory_wanted → Adds old mid []
+memory_added asked buffer None mid added = tt
+memory_added asked buffer (Some calls) mid added =
+    subst (λ (m : Option (List LinkCall)). Adds (Some calls) m []) (sym added) (sym (append-nil calls))
 
 -- the worlds before and after differ in what the link tells alone
 pub same_but_link : (old mid : Seen) → OnlyLink old mid
@@ -197,6 +222,12 @@ module _ (asked : Option ℕ) (wake : Wake) (bytes buffer : List ℕ) (more : is
   wait_adds None mid waits = tt
   wait_adds (Some told) mid waits = wait_adds_in told mid told.coming waits
 
+  wake_bytes_added : (old mid : Seen) → WaitsThere asked old mid buffer (woke wake)
+      → Adds old.link_calls mid.link_calls (Waited asked (Some (record { wake = wake; bytes = bytes })) ∷ [])
+  wake_bytes_added old mid waits =
+      subst (λ (bs : List ℕ). Adds old.link_calls mid.link_calls (Waited asked (Some (record { wake = wake; bytes = bs })) ∷ [])) (sym front)
+      (wake_added asked wake buffer old.link_calls mid.link_calls waits.calls)
+
   pub woke_world : (old mid : Seen) → WaitsThere asked old mid buffer (woke wake) → IfSome (world_of old) (λ world. Woke asked wake bytes world (world_of mid))
   woke_world old mid waits =
       subst (λ (m : Option World). IfSome (world_of old) (λ world. Woke asked wake bytes world m)) (same_but_link old mid waits.only)
@@ -205,7 +236,8 @@ module _ (asked : Option ℕ) (wake : Wake) (bytes buffer : List ℕ) (more : is
   pub wait_tells : (old mid : Seen) → WaitsThere asked old mid buffer (woke wake)
       → Tells old mid (Link (Waited asked (Some (record { wake = wake; bytes = bytes }))) ∷ [])
   wait_tells old mid waits =
-      link_alone old mid asked (Some (record { wake = wake; bytes = bytes })) waits.only waits.begins (wait_adds old.link.told mid.link.told waits.told)
+      link_alone old mid asked (Some (record { wake = wake; bytes = bytes })) waits.only waits.begins
+      (record { told = wait_adds old.link.told mid.link.told waits.told; added = wake_bytes_added old mid waits })
 
 -- ---- a wait that failed
 
@@ -218,12 +250,13 @@ failed_adds asked buffer (Some told) mid waits =
 pub failed_wait_tells : (asked : Option ℕ) (buffer : List ℕ) (old mid : Seen) → WaitsThere asked old mid buffer wait_failed
     → Tells old mid (Link (Waited asked None) ∷ [])
 failed_wait_tells asked buffer old mid waits =
-    link_alone old mid asked None waits.only waits.begins (failed_adds asked buffer old.link.told mid.link.told waits.told)
+    link_alone old mid asked None waits.only waits.begins
+    (record {
+      told = failed_adds asked buffer old.link.told mid.link.told waits.told;
+      added = failed_added asked buffer old.link_calls mid.link_calls waits.calls;
+    })
 
 -- ---- a wait that wanted memory
-
-abbrev pub memory_wanted : Result Wake DeviceAnswer
-memory_wanted = Err Answer.NoMemory
 
 memory_adds : (asked : Option ℕ) (buffer : List ℕ) (link mid : Option LinkTold) → Waits asked link mid buffer memory_wanted
     → Adds (option_map (λ t. t.calls) link) (option_map (λ t. t.calls) mid) []
@@ -232,35 +265,44 @@ memory_adds asked buffer (Some told) mid waits =
     subst (λ (l : Option LinkTold). Adds (Some told.calls) (option_map (λ t. t.calls) l) []) (sym waits) (sym (append-nil told.calls))
 
 pub memory_wait_tells : (asked : Option ℕ) (buffer : List ℕ) (old mid : Seen) → WaitsThere asked old mid buffer memory_wanted → Tells old mid []
-memory_wait_tells asked buffer old mid waits = link_quiet old mid waits.only waits.begins (memory_adds asked buffer old.link.told mid.link.told waits.told)
+memory_wait_tells asked buffer old mid waits =
+    link_quiet old mid waits.only waits.begins
+    (record {
+      told = memory_adds asked buffer old.link.told mid.link.told waits.told;
+      added = memory_added asked buffer old.link_calls mid.link_calls waits.calls;
+    })
 
 -- ---- the last wait
 
--- some wake was given
-pub record Gave (asked : Option ℕ) (wake : Wake) (link mid : Option LinkTold) : Type 0 where
-  pub given : Given
-  pub its_wake : given.wake ≡ wake
-  pub adds : Adds (option_map (λ t. t.calls) link) (option_map (λ t. t.calls) mid) (Waited asked (Some given) ∷ [])
+-- the wake that was given is told
+abbrev ToldWake : Option ℕ → Wake → (buffer : List ℕ) → (link mid : Option LinkTold) → Type 0
+ToldWake asked wake buffer link mid =
+    Adds (option_map (λ t. t.calls) link) (option_map (λ t. t.calls) mid) (Waited asked (Some (given_in buffer wake)) ∷ [])
+
+gave_so : (asked : Option ℕ) (wake : Wake) (buffer bytes : List ℕ) (told : LinkTold) (mid : Option LinkTold) (coming : List Given)
+    → mid ≡ Some (waited asked (Some (record { wake = wake; bytes = bytes })) coming told) → take (frame_len wake.event) buffer ≡ bytes
+    → ToldWake asked wake buffer (Some told) mid
+gave_so asked wake buffer bytes told mid coming same front =
+    subst (λ (l : Option LinkTold). ToldWake asked wake buffer (Some told) l) (sym same)
+    (ap (λ (bs : List ℕ). told.calls ++ Waited asked (Some (record { wake = wake; bytes = bs })) ∷ []) (sym front))
 
 gave_in : (asked : Option ℕ) (wake : Wake) (buffer : List ℕ) (told : LinkTold) (mid : Option LinkTold) (coming : List Given)
-    → Comes asked told coming mid buffer wake → Gave asked wake (Some told) mid
-gave_in asked wake buffer told mid [] comes = record {
-  given = record { wake = wake; bytes = [] };
-  its_wake = refl;
-  adds =
-      subst (λ (l : Option LinkTold). Adds (Some told.calls) (option_map (λ t. t.calls) l) (Waited asked (Some (record { wake = wake; bytes = [] })) ∷ []))
-      (sym comes.1) refl;
-}
-gave_in asked wake buffer told mid (given ∷ coming) comes = record {
-  given = record { wake = wake; bytes = take (frame_len wake.event) given.bytes };
-  its_wake = refl;
-  adds =
-      subst
-      (λ (l : Option LinkTold). Adds (Some told.calls) (option_map (λ t. t.calls) l)
-      (Waited asked (Some (record { wake = wake; bytes = take (frame_len wake.event) given.bytes })) ∷ []))
-      (sym comes.2) refl;
-}
+    → Comes asked told coming mid buffer wake → ToldWake asked wake buffer (Some told) mid
+gave_in asked wake buffer told mid [] comes =
+    gave_so asked wake buffer [] told mid [] comes.1 (ap (λ (e : Event). take (frame_len e) buffer) comes.0)
+gave_in asked wake buffer told mid (given ∷ coming) comes =
+    gave_so asked wake buffer (take (frame_len wake.event) given.bytes) told mid coming comes.2 comes.1
 
-pub gave : (asked : Option ℕ) (wake : Wake) (buffer : List ℕ) (link mid : Option LinkTold) → Waits asked link mid buffer (woke wake) → Gave asked wake link mid
-gave asked wake buffer None mid waits = record { given = record { wake = wake; bytes = [] }; its_wake = refl; adds = tt }
+gave : (asked : Option ℕ) (wake : Wake) (buffer : List ℕ) (link mid : Option LinkTold) → Waits asked link mid buffer (woke wake)
+    → ToldWake asked wake buffer link mid
+gave asked wake buffer None mid waits = tt
 gave asked wake buffer (Some told) mid waits = gave_in asked wake buffer told mid told.coming waits
+
+pub last_wait_tells : (asked : Option ℕ) (wake : Wake) (buffer : List ℕ) (old mid : Seen) → WaitsThere asked old mid buffer (woke wake)
+    → Tells old mid (Link (Waited asked (Some (given_in buffer wake))) ∷ [])
+last_wait_tells asked wake buffer old mid waits =
+    link_alone old mid asked (Some (given_in buffer wake)) waits.only waits.begins
+    (record {
+      told = gave asked wake buffer old.link.told mid.link.told waits.told;
+      added = wake_added asked wake buffer old.link_calls mid.link_calls waits.calls;
+    })

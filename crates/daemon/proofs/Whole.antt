@@ -19,7 +19,7 @@ use Rattle.turn_model.specs.Lives.{Met, IsLast, life_after, turns_calls, opening
 use Rattle.turn_model.specs.Foretold.{foretold_turns, foretold_life, left_in}
 use Rattle.daemon.specs.declared.serving.ServeEnd.{ServeEnd}
 use Rattle.daemon.specs.declared.serving.ServeEnd.TheVariants as ends
-use Rattle.daemon.specs.Waits.{BeginsThere, KnowsChild}
+use Rattle.life_devices.specs.Waits.{BeginsThere, KnowsChild}
 use Rattle.daemon.specs.Streams.{WritesBytes, WritesSome, WritesLines}
 use Rattle.daemon.specs.Serving.{opening_with, told_last, MakesOpening, Ends, AreManyTurns, HasServeCause}
 use Rattle.daemon.specs.Served.{IsLifeOf, Served}

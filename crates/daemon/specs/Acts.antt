@@ -14,7 +14,7 @@ use Rattle.daemon.specs.declared.acts.Outlook.{Outlook}
 use Rattle.daemon.specs.declared.acts.Step.{Step}
 use Rattle.daemon.specs.declared.lives.Life.{Life}
 use Rattle.daemon.specs.Lives.{life_of}
-use Rattle.daemon.specs.Tables.{WasKnown}
+use Rattle.life_asks.specs.Tables.{WasKnown}
 
 -- where these rows of the host were known
 abbrev pub outlook_of : Outlook → (known : Option (List HostRow)) → model.Outlook

@@ -19,7 +19,7 @@ use Rattle.daemon.specs.declared.serving.ServeEnd.TheVariants as ends
 use Rattle.daemon.specs.Streams.{WritesFront}
 use Rattle.daemon.specs.Serving.{AreWhole}
 use Rattle.daemon.specs.Served.{Begun, IsForetold}
-use Rattle.daemon.specs.Waits.{BeginsThere}
+use Rattle.life_devices.specs.Waits.{BeginsThere}
 
 -- what was being written, and the turns that were still to come, where these are foretold
 pub data CutAt : Type 0 where

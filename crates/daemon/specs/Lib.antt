@@ -1,10 +1,3 @@
-pub mod Answered
-pub mod Waits
-pub mod Hooking
-pub mod Files
-pub mod Keeping
-pub mod Loading
-pub mod Tables
 pub mod Lives
 pub mod Acts
 pub mod Streams

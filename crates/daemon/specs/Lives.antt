@@ -3,8 +3,8 @@ use Rattle.std.specs.Prelude.{ℕ, ◌<◌, ◌^◌, ◌+◌, Bool, true, false,
 use Rattle.client_model.specs.Clients.{rows_of}
 use Rattle.turn_model.specs.Turns as model
 use Rattle.daemon.specs.declared.lives.Life.{Life}
-use Rattle.daemon.specs.Keeping.{AreKept}
-use Rattle.daemon.specs.Tables.{known_in}
+use Rattle.life_files.specs.Keeping.{AreKept}
+use Rattle.life_asks.specs.Tables.{known_in}
 
 abbrev pub life_of : Life → model.Life
 life_of life =

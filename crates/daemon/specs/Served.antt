@@ -10,7 +10,7 @@ use Rattle.device_calls.specs.Telling.{Tells}
 use Rattle.turn_model.specs.Lives.{OpeningMet, IsOpening, Met, AreTurns, IsLast, life_after, turns_calls, life_lines}
 use Rattle.turn_model.specs.Foretold.{ForetoldLife, foretold_life, left_in}
 use Rattle.exact_texts.specs.ExactCalls.{TellExactly}
-use Rattle.daemon.specs.Waits.{BeginsThere}
+use Rattle.life_devices.specs.Waits.{BeginsThere}
 use Rattle.daemon.specs.Streams.{WritesLines}
 
 -- how a life began, and what the devices tell then

@@ -8,7 +8,7 @@ use Rattle.turn_model.specs.Lives.{Met}
 use Rattle.daemon.specs.declared.waking.Woken.{Woken}
 use Rattle.daemon.specs.declared.waking.Woken.TheVariants.{On, Over}
 use Rattle.daemon.specs.Lives.{life_of, IsOrderly}
-use Rattle.daemon.specs.Waits.{KnowsChild}
+use Rattle.life_devices.specs.Waits.{KnowsChild}
 use Rattle.daemon.specs.Serving.{Goes, Ends}
 
 -- a life goes on after exactly one turn

@@ -11,10 +11,10 @@ ghost use Rattle.daemon.specs.Serving.{HasServeCause};
 ghost use Rattle.daemon.specs.Streams.{WritesLines, WritesFront};
 
 use crate::lives::Life;
-use crate::saying::say;
 use crate::serving::ServeEnd;
 use crate::waking::write_all;
 use client_core::rows;
+use life_devices::say;
 use transcript_text::TranscriptLine;
 use world::{HostRow, NoMemory, Sink};
 

@@ -6,11 +6,10 @@ ghost use Rattle.machine.specs.Moment.{moment_of};
 ghost use Rattle.turn_model.specs.Turns.{stop_after, retry_at, end_at, is_past, until, is_over};
 ghost use Rattle.daemon.specs.Lives.{life_of, IsBelowEnd, IsTimely, retry_unless};
 
-use crate::hooks::hooks_due;
-use crate::kept::KeptFiles;
-use crate::tables::Table;
 use client_core::{Core, core_due, earlier_of};
 use hook_child::Supervisor;
+use life_asks::{Table, hooks_due};
+use life_files::KeptFiles;
 use world::Event;
 
 /// Moments are below this, in milliseconds since 1970.

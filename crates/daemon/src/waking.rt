@@ -8,13 +8,13 @@ ghost use Rattle.daemon.specs.Lives.{life_of, IsOrderly};
 ghost use Rattle.daemon.specs.Serving.{HasServeCause};
 ghost use Rattle.daemon.specs.Streams.{WritesBytes, WritesSome};
 ghost use Rattle.daemon.specs.Waking.{IsOneTurn};
-ghost use Rattle.daemon.specs.Waits.{KnowsChild, WaitsThere};
+ghost use Rattle.life_devices.specs.Waits.{KnowsChild, WaitsThere};
 ghost use Rattle.daemon.specs.Cuts.{WaitFails, BreaksOff};
 
 use crate::lives::Life;
-use crate::outside::Outside;
 use crate::serving::ServeEnd;
 use crate::turns::turn;
+use life_devices::Outside;
 use settings::Managed;
 use std::alloc::Global;
 use world::{DeviceAnswer, Event, NoMemory, Sink, Wake};

@@ -51,6 +51,7 @@ counts_nothing seen = record {
 pub tells_none : (seen : Seen) → Tells seen seen []
 tells_none seen = record {
   link = adds_none _;
+  link_calls = adds_none seen.link_calls;
   host = adds_none _;
   store = adds_none _;
   hooks = adds_none _;
@@ -61,11 +62,15 @@ tells_none seen = record {
   counts = counts_nothing seen;
 }
 
+both_add : {C : Type 0} (own : Call → List C) (old mid new : Option (List C)) (a b : List Call)
+    → Adds old mid (flat_map own a) → Adds mid new (flat_map own b) → Adds old new (flat_map own (a ++ b))
+both_add {C} own old mid new a b p q =
+    subst (λ (cs : List C). Adds old new cs) (sym (flat_map-append own a b)) (adds_then old mid new (flat_map own a) (flat_map own b) p q)
+
 both_tell : {T F C : Type 0} (calls_in : T → List C) (own : Call → List C) (old mid new : Device T F) (a b : List Call)
     → TellsCalls calls_in old mid (flat_map own a) → TellsCalls calls_in mid new (flat_map own b) → TellsCalls calls_in old new (flat_map own (a ++ b))
-both_tell {T} {F} {C} calls_in own old mid new a b p q =
-    subst (λ (cs : List C). TellsCalls calls_in old new cs) (sym (flat_map-append own a b))
-    (adds_then (option_map calls_in old.told) (option_map calls_in mid.told) (option_map calls_in new.told) (flat_map own a) (flat_map own b) p q)
+both_tell calls_in own old mid new a b p q =
+    both_add own (option_map calls_in old.told) (option_map calls_in mid.told) (option_map calls_in new.told) a b p q
 
 both_counted : {C : Type 0} (failed : C → Bool) (xs ys : List C) (old mid new : ℕ) → old + count_by failed xs ≤ mid → mid + count_by failed ys ≤ new
     → old + count_by failed (xs ++ ys) ≤ new
@@ -90,6 +95,7 @@ counts_then old mid new a b p q = record {
 pub tells_then : (old mid new : Seen) (a b : List Call) → Tells old mid a → Tells mid new b → Tells old new (a ++ b)
 tells_then old mid new a b p q = record {
   link = both_tell (λ told. told.calls) link_call old.link mid.link new.link a b p.link q.link;
+  link_calls = both_add link_call old.link_calls mid.link_calls new.link_calls a b p.link_calls q.link_calls;
   host = both_tell (λ told. told.calls) host_call old.host mid.host new.host a b p.host q.host;
   store = both_tell (λ told. told.calls) store_call old.store mid.store new.store a b p.store q.store;
   hooks = both_tell (λ told. told.calls) hook_call old.hooks mid.hooks new.hooks a b p.hooks q.hooks;

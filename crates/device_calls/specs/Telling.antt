@@ -20,6 +20,7 @@ TellsCalls calls_in old new calls = Adds (option_map calls_in old.told) (option_
 -- each device counted those that failed.
 pub record Tells (old new : Seen) (calls : List Call) : Type 0 where
   pub link : TellsCalls (λ told. told.calls) old.link new.link (flat_map link_call calls)
+  pub link_calls : Adds old.link_calls new.link_calls (flat_map link_call calls)
   pub host : TellsCalls (λ told. told.calls) old.host new.host (flat_map host_call calls)
   pub store : TellsCalls (λ told. told.calls) old.store new.store (flat_map store_call calls)
   pub hooks : TellsCalls (λ told. told.calls) old.hooks new.hooks (flat_map hook_call calls)

@@ -2,7 +2,7 @@
 -- fail.
 use Rattle.std.specs.Prelude.{ℕ, ◌+◌, Bool, not, if◌then◌else◌, List, [], ◌∷◌, length, Option, Some, None}
 use Rattle.world.specs.Causes.{has_number}
-use Rattle.world.specs.LinkCalls.{LinkTold, offered}
+use Rattle.world.specs.LinkCalls.{LinkTold, LinkCall, offered}
 use Rattle.world.specs.HostCalls.{HostTold, Listed, host_answered}
 use Rattle.world.specs.StoreCalls.{StoreTold, StoreCall, Unread, ListedAsides, ReadFile, WroteAside, SyncedAside, RenamedAside, RemovedFile, SettledFiles, fails_rename, reading_of, store_answered}
 use Rattle.world.specs.StoreFails.{StoreFails, fails_at}
@@ -28,9 +28,11 @@ pub record Waiting : Type 0 where
   pub failing : Option (List ℕ)
   pub child : Bool
 
--- all devices; the link's own failing calls are its sends
+-- all devices; the link's own failing calls are its sends. Its calls may be told by themselves, even if what will come
+-- isn't
 pub record Seen : Type 0 where
   pub link : Device LinkTold (List ℕ)
+  pub link_calls : Option (List LinkCall)
   pub host : Device HostTold (List ℕ)
   pub store : Device StoreTold StoreFails
   pub hooks : Device HooksTold (List ℕ)

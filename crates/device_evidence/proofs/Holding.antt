@@ -24,6 +24,7 @@ use Rattle.evidence.specs.HeldAddresses.{RestOnEvidence}
 use Rattle.evidence.proofs.Based.{have_basis}
 use Rattle.evidence.proofs.Items.{items_have_basis}
 use Rattle.evidence.proofs.Leasing.{leases_based}
+use Rattle.evidence.proofs.Starts.{opening_starts, plain_opening_starts}
 use Rattle.evidence.proofs.LeaseEvidence.Joining.{LeaseRelation}
 use Rattle.device_evidence.specs.Stretches.{all_calls, at_opening, at_turn}
 use Rattle.device_evidence.specs.HostHeld.{HostWent, NoneFailed, HostHeld, HostHeldInLife, HostsHold}
@@ -165,7 +166,12 @@ module _ (managed : List Managed) (specs : List IfSpec) (fit : AreManaged manage
           }
 
     pub held : HostHeldInLife managed specs opening mets end first last
-    held = record { opened = held_opened; turned = held_turned }
+    held = record {
+      starts = opening_starts managed specs opening opens fit others numbered named;
+      plain_starts = plain_opening_starts managed specs opening opens;
+      opened = held_opened;
+      turned = held_turned;
+    }
 
 pub hosts_hold : HostsHold
 hosts_hold managed specs opening mets end first last fit shares others numbered named opens turns s goes =

@@ -1,7 +1,7 @@
 -- What a host that tells its rows holds in a life, whatever its calls are answered, and whether or not it is told which
 -- of them fail.
-use Rattle.std.specs.Prelude.{◌≡◌, List, [], ◌∷◌, ◌++◌, flat_map}
-use Rattle.std.specs.List.{AllPass}
+use Rattle.std.specs.Prelude.{◌≡◌, false, List, [], ◌∷◌, ◌++◌, flat_map}
+use Rattle.std.specs.List.{AllPass, AllByRecursion}
 use Rattle.net_types.specs.declared.interface.IfSpec.{IfSpec}
 use Rattle.world.specs.HostCalls.{HostTold}
 use Rattle.settings.specs.declared.interfaces.Managed.{Managed}
@@ -15,7 +15,7 @@ use Rattle.turn_model.specs.FilesInLife.{AreNamedApart}
 use Rattle.turn_model.specs.Turns.{Life}
 use Rattle.turn_model.specs.Lives.{OpeningMet, IsOpening, Met, AreTurns}
 use Rattle.evidence.specs.Laws.{AreNumbered, AreOctets, AreSharedWithOthers}
-use Rattle.evidence.specs.HeldAddresses.{RestOnEvidence}
+use Rattle.evidence.specs.HeldAddresses.{RestOnEvidence, WantsStaticOrKept, WantsStaticAlone}
 use Rattle.device_evidence.specs.Stretches.{Stretch, all_calls, at_opening, at_turn}
 
 -- what the host told before and after some calls, which it answered truly
@@ -37,9 +37,13 @@ pub record HostHeld (managed : List Managed) (specs : List IfSpec) (opening : Op
   pub wanted : NoneFailed calls.own → managed_rows managed told.rows ≡ rows_of life.client
   pub rests : NoneFailed calls.own → AreOctets mets → RestOnEvidence managed specs opening mets told.rows
 
--- after the opening, and after each turn
+-- After the opening, and after each turn. At the opening the client wants static addresses, and those of kept leases
+-- that are asked for again; static ones alone where no interface has `persistent`.
 pub record HostHeldInLife (managed : List Managed) (specs : List IfSpec) (opening : OpeningMet) (mets : List Met)
     (end : List Call) (first last : HostTold) : Type 0 where
+  pub starts : WantsStaticOrKept managed specs opening
+  pub plain_starts : AllByRecursion (λ (m : Managed). m.conf.flags.persistent ≡ false) managed
+      → WantsStaticAlone managed specs opening
   pub opened : HostHeld managed specs opening [] opening.life (at_opening opening mets end) first last
   pub turned : (earlier : List Met) (met : Met) (later : List Met) → mets ≡ earlier ++ met ∷ later
       → HostHeld managed specs opening (earlier ++ met ∷ []) met.life (at_turn opening earlier met later end) first last

@@ -1,13 +1,1 @@
-pub mod ChildCalls
-pub mod Listings
-pub mod HostScripts
-pub mod HostTables
-pub mod HostNotes
-pub mod HookTellings
-pub mod Ports
-pub mod Datagrams
-pub mod Salts
-pub mod Moments
-pub mod Waiting
-pub mod WireCalls
-pub mod Waits
+pub use Rattle.loop_link.specs.Ports

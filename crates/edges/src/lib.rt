@@ -2,31 +2,20 @@
 //! rows, children that run hooks, and datagrams on the loopback address in the place of interfaces.
 //!
 //! The devices stand over traits, each method of which is one call of the system: `Disk` (of `system_calls`),
-//! `Children` and `Loopback`. Where a machine tells its calls, each device says which it made, and that it answers by
-//! them. The runtime's own calls (`system`) tell nothing, and are trusted.
+//! `Children` (of `child_devices`) and `Loopback` (of `loop_link`). Where a machine tells its calls, each device says
+//! which it made, and that it answers by them. The runtime's own calls (`system`) tell nothing, and are trusted.
 #![tactic(auto)]
 
-mod children;
-mod commands;
-mod constants;
-mod datagrams;
-mod links;
-mod loopback;
 mod machine;
-mod moments;
-mod processes;
-mod salts;
 mod streams;
 mod system;
 
-pub use children::ChildHooks;
-pub use commands::CommandHost;
-pub use constants::{datagrams_are_these, loopback_is_this, salts_are_these};
+pub use child_devices::{ChildHooks, Children, CommandHost, HookNote, HostNote};
 pub use folder_store::{FolderStore, savings_are_whole};
-pub use links::LoopLink;
-pub use loopback::Loopback;
+pub use loop_link::{
+    LinkNote, LoopLink, Loopback, Salts, Watch, datagrams_are_these, loopback_is_this,
+    salts_are_these,
+};
 pub use machine::{ChildWatch, SystemChildren, SystemDisk, SystemLoopback};
-pub use processes::{Children, HookNote, HostNote, Watch};
-pub use salts::Salts;
 pub use streams::{StdSink, StdSource};
 pub use system_calls::{Disk, Note};

@@ -2,11 +2,11 @@
 
 ghost use Rattle.std.specs.Prelude.{None};
 
-use crate::loopback::Loopback;
 use crate::machine::{
     ChildWatch, NOT_OPEN, SystemChildren, SystemDisk, SystemLoopback, answer, named,
 };
-use crate::processes::{Children, HookNote, HostNote, Watch};
+use child_devices::{Children, HookNote, HostNote};
+use loop_link::{LinkNote, Loopback, Watch};
 use std::fs;
 use std::fs::OpenFile;
 use std::io::{ErrorKind, Read, Write};
@@ -123,6 +123,8 @@ impl<P: OpenProcess + Drop> Watch for ChildWatch<P> {
 impl<R: Net + Clock + Drop> Loopback for SystemLoopback<R> {
     ghost calls = { λ line. None };
 
+    ghost link = { λ line. None };
+
     fn bind(&mut self, port: u16) -> Result<(), ErrorKind> {
         self.socket = Some(answer(UdpSocket::bind(&self.rt, (Ipv4Addr::LOCALHOST, port)))?);
         Ok(())
@@ -149,4 +151,6 @@ impl<R: Net + Clock + Drop> Loopback for SystemLoopback<R> {
     fn steady(&mut self) -> Result<Instant, ErrorKind> {
         answer(Instant::now(&self.rt))
     }
+
+    fn note(&mut self, _peer: u16, _call: LinkNote<'_>) {}
 }

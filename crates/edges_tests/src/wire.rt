@@ -4,7 +4,7 @@
 ghost use Rattle.std.specs.Prelude.{◌<◌, ◌^◌};
 
 use crate::failing::Failing;
-use edges::Loopback;
+use edges::{LinkNote, Loopback};
 use lab_peer::{Peer, Pool};
 use net_types::Ip4;
 use std::alloc::{AllocError, Global};
@@ -155,6 +155,8 @@ impl Loopback for MemLoopback {
 
     ghost calls = { λ line. None };
 
+    ghost link = { λ line. None };
+
     fn bind(&mut self, _port: u16) -> Result<(), ErrorKind> {
         self.failing.call()
     }
@@ -204,4 +206,6 @@ impl Loopback for MemLoopback {
             Err(error) => Err(error.kind()),
         }
     }
+
+    fn note(&mut self, _peer: u16, _call: LinkNote<'_>) {}
 }

@@ -91,3 +91,23 @@ wait_number (Some told) = told.waits + 1
 abbrev pub send_number : Option LinkTold → ℕ
 send_number None = 0
 send_number (Some told) = told.sends + 1
+
+-- ---- the calls by themselves, where what comes isn't told
+
+-- what a wait gave: the wake, with the bytes of its frame out of the buffer
+abbrev pub given_in : (buffer : List ℕ) → Wake → Given
+given_in buffer wake = record { wake = wake; bytes = take (frame_len wake.event) buffer }
+
+-- a wait was added to the calls, unless it wanted memory
+abbrev pub AddsWait : Option ℕ → (old new : Option (List LinkCall)) → (buffer : List ℕ) → Result Wake DeviceAnswer → Type 0
+AddsWait until None new buffer result = new ≡ None
+AddsWait until (Some calls) new buffer (Ok wake) = new ≡ Some (calls ++ Waited until (Some (given_in buffer wake)) ∷ [])
+AddsWait until (Some calls) new buffer (Err Answer.Failed) = new ≡ Some (calls ++ Waited until None ∷ [])
+AddsWait until (Some calls) new buffer (Err Answer.NoMemory) = new ≡ Some calls
+
+-- and so was a frame that was offered
+abbrev pub AddsOffer : {T : Type 0} → ℕ → List ℕ → (old new : Option (List LinkCall)) → Result T DeviceAnswer → Type 0
+AddsOffer iface frame None new result = new ≡ None
+AddsOffer iface frame (Some calls) new (Ok x) = new ≡ Some (calls ++ Offered iface frame true ∷ [])
+AddsOffer iface frame (Some calls) new (Err Answer.Failed) = new ≡ Some (calls ++ Offered iface frame false ∷ [])
+AddsOffer iface frame (Some calls) new (Err Answer.NoMemory) = new ≡ Some calls

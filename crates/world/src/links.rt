@@ -2,7 +2,7 @@
 
 ghost use Rattle.std.specs.Prelude.{◌≡◌, ◌≤◌, ℕ, Option, List, length, IfOk, IfSome, IsOk};
 ghost use Rattle.world.specs.Causes.{HasCause, HasDeviceCause, Foretold};
-ghost use Rattle.world.specs.LinkCalls.{LinkTold, frame_len, Begins, Waits, Offers, wait_number, send_number};
+ghost use Rattle.world.specs.LinkCalls.{LinkTold, LinkCall, frame_len, Begins, Waits, Offers, AddsWait, AddsOffer, wait_number, send_number};
 ghost use Rattle.world.specs.Streams.{count_after};
 
 use crate::faults::DeviceAnswer;
@@ -23,6 +23,9 @@ pub trait Link {
     /// What was asked, given and offered, and what will come, where that is told.
     ghost told: { Self → Option LinkTold };
 
+    /// The waits and sends answered so far, where these are told, even if what will come isn't.
+    ghost calls: { Self → Option (List LinkCall) };
+
     /// The numbers of the waits that fail, from 1, where these are told.
     ghost failing_waits: { Self → Option (List ℕ) };
 
@@ -35,6 +38,7 @@ pub trait Link {
         ensures no_send { send_faults self.new ≡ send_faults self.old }
         ensures counted { begins self.new ≡ count_after (begins self.old) }
         ensures told { Begins (told self.old) (told self.new) result }
+        ensures calls { calls self.new ≡ calls self.old }
         // Where it is told which waits fail, beginning doesn't.
         ensures begun { IfSome (failing_waits self.old) (λ _. IsOk result) }
         ensures failing { (failing_waits self.new ≡ failing_waits self.old)
@@ -48,6 +52,7 @@ pub trait Link {
         ensures no_begin { begins self.new ≡ begins self.old }
         ensures room { IfOk result (λ wake. frame_len wake.event ≤ length buf.new) }
         ensures told { Waits until (told self.old) (told self.new) buf.new result }
+        ensures calls { AddsWait until (calls self.old) (calls self.new) buf.new result }
         ensures foretold { Foretold (failing_waits self.old) (wait_number (told self.old)) result }
         ensures failing { (failing_waits self.new ≡ failing_waits self.old)
             × (failing_sends self.new ≡ failing_sends self.old) };
@@ -57,6 +62,7 @@ pub trait Link {
         ensures cause { HasDeviceCause (send_faults self.old) (send_faults self.new) result }
         ensures no_wait { (faults self.new ≡ faults self.old) × (begins self.new ≡ begins self.old) }
         ensures told { Offers iface.number frame.now (told self.old) (told self.new) result }
+        ensures calls { AddsOffer iface.number frame.now (calls self.old) (calls self.new) result }
         ensures foretold { Foretold (failing_sends self.old) (send_number (told self.old)) result }
         ensures failing { (failing_waits self.new ≡ failing_waits self.old)
             × (failing_sends self.new ≡ failing_sends self.old) };

@@ -1,3 +1,4 @@
 mod Fronts
 mod HostSteps
 mod CallCounts
+mod LinkAdds

@@ -151,6 +151,8 @@ impl Link for MemLink {
 
     ghost told = { λ link. Some link.told };
 
+    ghost calls = { λ link. Some link.told.calls };
+
     ghost failing_waits = { λ link. Some link.failing_waits };
 
     ghost failing_sends = { λ link. Some link.failing_sends };
@@ -160,6 +162,7 @@ impl Link for MemLink {
         Ok(self.begin)
     }
 
+    #[tactic(auto, using(crate::proofs::LinkAdds::wait_added))]
     fn wait(&mut self, until: Option<u64>, buf: &mut [u8]) -> Result<Wake, DeviceAnswer> {
         let number = next_number(self.waits)?;
         make_room(&mut self.calls, 1)?;

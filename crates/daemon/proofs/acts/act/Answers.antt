@@ -7,10 +7,10 @@ use Rattle.client_model.specs.Clients.{rows_of}
 use Rattle.device_calls.specs.Does.{Does}
 use Rattle.turn_model.specs.Turns.{offering}
 use Rattle.daemon.specs.Acts.{outlook_of, step_of}
-use Rattle.daemon.specs.Tables.{known_in, WasKnown, Hosts, BeginsHosts}
+use Rattle.life_asks.specs.Tables.{known_in, WasKnown, Hosts, BeginsHosts}
 use Rattle.daemon.proofs.TurnSteps.{acted}
 use Rattle.device_calls.specs.Fronts.{HasBegun}
-use Rattle.daemon.proofs.Begins.{on_err}
+use Rattle.life_devices.proofs.Begins.{on_err}
 use Rattle.daemon.proofs.BegunTurns.{frames_begun, hosts_begun, hooks_begun, files_begun}
 use Rattle.daemon.proofs.acts.act.Goals as goal
 

@@ -4,14 +4,14 @@ use Rattle.std.specs.Global.{Global}
 use Rattle.std.specs.String.{string_bytes}
 use Rattle.device_calls.specs.Does.{Does}
 use Rattle.turn_model.specs.Opening.{clearing_listed}
-use Rattle.daemon.specs.Answered.{names_of}
-use Rattle.daemon.proofs.Parts.{if_ok}
+use Rattle.life_devices.specs.Answered.{names_of}
+use Rattle.life_devices.proofs.Successes.{if_ok}
 use Rattle.daemon.proofs.OpeningSteps.{cleared_unlisted, cleared}
 use Rattle.device_calls.specs.Calls.{ListAsides}
 use Rattle.device_calls.specs.Fronts.{HasBegun}
 use Rattle.device_calls.proofs.Begun.{begun_ask}
-use Rattle.daemon.proofs.Begins.{on_err, err_so}
-use Rattle.daemon.proofs.BegunFiles.{cleared_later}
+use Rattle.life_devices.proofs.Begins.{on_err, err_so}
+use Rattle.life_files.proofs.BegunFiles.{cleared_later}
 use Rattle.daemon.proofs.openings.clear.Goals as goal
 
 pub returns-in-None-clause-does : goal.returns-in-None-clause-does

@@ -4,7 +4,7 @@ use Rattle.iface_core.specs.Beginnings.{beginning_of}
 use Rattle.iface_core.specs.Outcomes.{asked_in}
 use Rattle.world.specs.HookCalls.{job_of}
 use Rattle.daemon.specs.Lives.{life_of}
-use Rattle.daemon.proofs.KeptFiles.{all_but}
+use Rattle.life_files.proofs.KeptFiles.{all_but}
 use Rattle.device_calls.specs.Does.{Does}
 use Rattle.turn_model.specs.KeptFiles.{KeptFile}
 use Rattle.turn_model.specs.Turns.{acting}
@@ -12,7 +12,7 @@ use Rattle.daemon.proofs.TurnSteps.{first_outlook, step_with, opening_made}
 use Rattle.device_calls.specs.Fronts.{HasBegun}
 use Rattle.turn_model.specs.Opening.{opening_asks}
 use Rattle.device_calls.proofs.Begun.{begun_none, begun_all}
-use Rattle.daemon.proofs.Begins.{on_err}
+use Rattle.life_devices.proofs.Begins.{on_err}
 use Rattle.daemon.proofs.BegunTurns.{opening_clears, opening_loads, opening_loaded, opening_goes}
 use Rattle.daemon.proofs.openings.open.Goals as goal
 

@@ -1,7 +1,7 @@
 use Rattle.std.proofs.Common.{◌∙◌}
 use Rattle.daemon.proofs.OpeningSteps.{removing_more, removing_end, removed_none, removed_some, none_there, some_there}
-use Rattle.daemon.proofs.Begins.{on_err}
-use Rattle.daemon.proofs.BegunFiles.{removing_begun, removing_later, removing_settles, some_begun}
+use Rattle.life_devices.proofs.Begins.{on_err}
+use Rattle.life_files.proofs.BegunFiles.{removing_begun, removing_later, removing_settles, some_begun}
 use Rattle.daemon.proofs.openings.remove_all.Goals as goal
 
 pub loop-name-preserved : goal.loop-name-preserved

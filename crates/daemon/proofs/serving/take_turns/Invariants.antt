@@ -1,7 +1,7 @@
 use Rattle.std.proofs.Common.{◌≡◌, ◌≤◌, true, false}
 use Rattle.turn_model.specs.Turns.{is_over}
 use Rattle.daemon.specs.Lives.{life_of, IsOrderly}
-use Rattle.daemon.specs.Waits.{KnowsChild}
+use Rattle.life_devices.specs.Waits.{KnowsChild}
 use Rattle.daemon.proofs.Wakings.{TakesTurns}
 use Rattle.daemon.proofs.serving.take_turns.Given as goal
 

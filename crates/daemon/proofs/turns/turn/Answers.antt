@@ -7,13 +7,13 @@ use Rattle.client_model.specs.IfaceTurns.{Turn}
 use Rattle.turn_model.specs.Turns.{input_of, turn_asks}
 use Rattle.client_model.specs.Clients.{rows_of}
 use Rattle.daemon.specs.Lives.{life_of, IsBelowEnd}
-use Rattle.daemon.specs.Tables.{known_in}
-use Rattle.daemon.proofs.HostSteps.{wanted_in_order}
+use Rattle.life_asks.specs.Tables.{known_in}
+use Rattle.life_asks.proofs.HostSteps.{wanted_in_order}
 use Rattle.daemon.proofs.StopMoments.{stop_below}
-use Rattle.daemon.proofs.KeptFiles.{kept_but}
+use Rattle.life_files.proofs.KeptFiles.{kept_but}
 use Rattle.daemon.proofs.TurnSteps.{turn_made}
 use Rattle.device_calls.proofs.Begun.{begun_none, begun_all}
-use Rattle.daemon.proofs.Begins.{on_err}
+use Rattle.life_devices.proofs.Begins.{on_err}
 use Rattle.daemon.proofs.BegunTurns.{turn_polls, turn_polled, turn_goes}
 use Rattle.daemon.proofs.turns.turn.Goals as goal
 

@@ -1,5 +1,0 @@
-use Rattle.std.proofs.Common.{length}
-use Rattle.daemon.proofs.sends.+offer_all.Given as goal
-
-abbrev pub decreases-offer_all : goal.decreases-offer_all
-decreases-offer_all g l = length l.sends.now

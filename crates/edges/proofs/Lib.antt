@@ -1,8 +1,0 @@
-pub mod HeldRows
-pub mod CallPairs
-pub mod ScriptCalls
-pub mod TableSteps
-pub mod OneListing
-pub mod ListingRows
-pub mod WaitSteps
-pub mod WaitEnds

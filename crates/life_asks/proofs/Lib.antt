@@ -1,0 +1,4 @@
+pub mod Parts
+pub mod HostSteps
+pub mod Hookings
+pub mod BegunParts

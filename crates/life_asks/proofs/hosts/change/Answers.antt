@@ -1,0 +1,17 @@
+use Rattle.device_calls.specs.Calls.{Change}
+use Rattle.device_calls.proofs.Doing.{does_one}
+use Rattle.device_calls.specs.Programs.{Done, Then}
+use Rattle.device_calls.proofs.Begun.{begun_none, begun_one}
+use Rattle.life_devices.proofs.Begins.{on_err}
+use Rattle.life_asks.proofs.hosts.change.Goals as goal
+
+pub returns-clause-does : goal.returns-clause-does
+returns-clause-does g c = does_one (Change c.args.change) c.in_ok-done.done _ _ _ _ c.in_ok-done.ensures.one c.in_ok-say_change.ensures
+
+pub returns-in_err-done-clause-begun : goal.returns-in_err-done-clause-begun
+returns-in_err-done-clause-begun g c =
+    on_err c.from_residual.result (begun_none (Then (Change c.args.change) Done) _ _ c.in_err-done.ensures.memory)
+
+pub returns-in_err-say_change-clause-begun : goal.returns-in_err-say_change-clause-begun
+returns-in_err-say_change-clause-begun g c =
+    on_err c.from_residual-in_err-say_change.result (begun_one (Change c.args.change) c.in_ok-done.done _ _ c.in_ok-done.ensures.one)

@@ -1,0 +1,2 @@
+pub mod Hooking
+pub mod Tables

@@ -1,0 +1,4 @@
+pub mod Answers
+pub mod Ones
+pub mod Begins
+pub mod Successes

@@ -1,0 +1,5 @@
+mod FileNames
+pub mod Bringing
+pub mod BegunFiles
+pub mod KeptFiles
+pub mod LoadedFiles

@@ -1,0 +1,4 @@
+pub mod ReceivedCalls
+pub mod WaitSteps
+pub mod WaitEnds
+pub mod Notes
