@@ -2,7 +2,10 @@
 //! which devices ask a machine. What they tell stands in records that only clauses read, and that want no memory.
 #![tactic(auto)]
 
+mod child_records;
+mod children;
 mod lines;
 mod wire_records;
 
+pub use children::MemChildren;
 pub use lines::{Datagram, MemLine};
