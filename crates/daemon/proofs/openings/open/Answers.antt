@@ -4,7 +4,7 @@ use Rattle.iface_core.specs.Beginnings.{beginning_of}
 use Rattle.iface_core.specs.Outcomes.{asked_in}
 use Rattle.world.specs.HookCalls.{job_of}
 use Rattle.daemon.specs.Lives.{life_of}
-use Rattle.life_files.proofs.KeptFiles.{all_but}
+use Rattle.life_files.proofs.KeepingSteps.{all_but}
 use Rattle.device_calls.specs.Does.{Does}
 use Rattle.turn_model.specs.KeptFiles.{KeptFile}
 use Rattle.turn_model.specs.Turns.{acting}

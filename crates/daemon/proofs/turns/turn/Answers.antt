@@ -10,7 +10,7 @@ use Rattle.daemon.specs.Lives.{life_of, IsBelowEnd}
 use Rattle.life_asks.specs.Tables.{known_in}
 use Rattle.life_asks.proofs.HostSteps.{wanted_in_order}
 use Rattle.daemon.proofs.StopMoments.{stop_below}
-use Rattle.life_files.proofs.KeptFiles.{kept_but}
+use Rattle.life_files.proofs.KeepingSteps.{kept_but}
 use Rattle.daemon.proofs.TurnSteps.{turn_made}
 use Rattle.device_calls.proofs.Begun.{begun_none, begun_all}
 use Rattle.life_devices.proofs.Begins.{on_err}
