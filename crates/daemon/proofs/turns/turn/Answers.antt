@@ -1,8 +1,8 @@
 use Rattle.std.proofs.Common.{◌≡◌, refl, sym, subst}
 use Rattle.std.specs.Prelude.{map}
 use Rattle.world.specs.HookCalls.{job_of}
-use Rattle.iface_core.specs.Inputs.{event_of, bytes_of}
-use Rattle.iface_core.specs.Outcomes.{asked_in}
+use Rattle.client_core.specs.IfaceMachines.Inputs.{event_of, bytes_of}
+use Rattle.client_core.specs.IfaceMachines.Outcomes.{asked_in}
 use Rattle.client_model.specs.IfaceTurns.{Turn}
 use Rattle.turn_model.specs.Turns.{input_of, turn_asks}
 use Rattle.client_model.specs.Clients.{rows_of}
