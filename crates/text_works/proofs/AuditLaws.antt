@@ -7,7 +7,7 @@ use Rattle.audit_reasons.specs.TranscriptAudit.Laws.{AVerdictIsOne}
 use Rattle.audit_reasons.specs.TranscriptAudit.Verdicts.{IsJudged, NamesBad}
 use Rattle.audit_reasons.specs.Accounts.{IsExplained}
 use Rattle.audit_reasons.specs.Texts.{lines_text}
-use Rattle.audit_reasons.specs.declared.line.BasisLine.{BasisLine}
+use Rattle.audit_reasons.specs.RowReasons.declared.line.BasisLine.{BasisLine}
 use Rattle.text_works.specs.declared.status.Status.{Status}
 use Rattle.text_works.specs.declared.status.Status.TheVariants as status
 use Rattle.text_works.specs.Auditing.{HasDueAnswer, IsAnsweredDuly, IsAuditAnswer, IsNoOf, IsWhyAnswer, IsWhyOf, IsYesOf, RefusesTranscript, auditing, explaining, verdict_text}

@@ -7,7 +7,7 @@ use Rattle.audit_reasons.specs.TranscriptAudit.declared.verdict.Verdict.TheVaria
 use Rattle.audit_reasons.specs.TranscriptAudit.Verdicts.{IsJudged, NamesBad}
 use Rattle.audit_reasons.specs.Accounts.{IsExplained}
 use Rattle.audit_reasons.specs.Texts.{lines_text}
-use Rattle.audit_reasons.specs.declared.line.BasisLine.{BasisLine}
+use Rattle.audit_reasons.specs.RowReasons.declared.line.BasisLine.{BasisLine}
 use Rattle.text_works.specs.declared.status.Status.{Status}
 use Rattle.text_works.specs.declared.status.Status.TheVariants as status
 use Rattle.text_works.specs.Input.{limit}
