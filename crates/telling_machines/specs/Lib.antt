@@ -1,0 +1,2 @@
+pub mod WireEntries
+pub mod LineRecord
