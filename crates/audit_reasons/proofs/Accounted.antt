@@ -3,15 +3,16 @@ use Rattle.std.proofs.Common.{◌≡◌, ℕ, List, sym, ap, subst, ◌∙◌}
 use Rattle.transcript_model.specs.Told.{Told}
 use Rattle.transcript_read.specs.Following.{Reaches}
 use Rattle.transcript_read.specs.Whole.{IsFollowedWhole, TranscriptsAreOne}
-use Rattle.audit_model.specs.Verdicts.{IsYes, Justified}
-use Rattle.transcript_audit.specs.Verdicts.{HasBasisShown}
-use Rattle.basis_turns.specs.BasisShown.{FoundAreShown}
+use Rattle.row_reasons.specs.AuditModel.Verdicts.{IsYes, Justified}
+use Rattle.row_reasons.specs.TranscriptAudit.Verdicts.{HasBasisShown}
+use Rattle.row_reasons.specs.BasisTurns.BasisShown.{FoundAreShown}
+use Rattle.row_reasons.specs.ReasonLines.{LifeJudged, said_of}
+use Rattle.row_reasons.specs.declared.line.BasisLine.{BasisLine}
 use Rattle.audit_reasons.specs.Accounts.{AreLinesOf, IsExplained}
-use Rattle.audit_reasons.specs.Explaining.{Explaining, LifeJudged, after, first, said_of}
+use Rattle.audit_reasons.specs.Explaining.{Explaining, after, first}
 use Rattle.audit_reasons.specs.Holding.{Explains}
 use Rattle.audit_reasons.specs.Saying.{IsSaidOf}
 use Rattle.audit_reasons.specs.declared.explainer.Explainer.{Explainer}
-use Rattle.audit_reasons.specs.declared.line.BasisLine.{BasisLine}
 use Rattle.audit_reasons.proofs.LinesMade.{lives_said}
 use Rattle.audit_reasons.proofs.LivesSaid.{lives_ended}
 

@@ -12,28 +12,30 @@ use Rattle.world.specs.declared.wakes.Event.TheVariants.{Quiet}
 use Rattle.conf_text.specs.Settings.{managed_of}
 use Rattle.script_model.specs.Lines.{Line}
 use Rattle.script_model.specs.Lines as Model
-use Rattle.evidence_words.specs.Entries.{Entry}
+use Rattle.row_reasons.specs.EvidenceWords.Entries.{Entry}
 use Rattle.transcript_model.specs.LifeShapes.{Follows}
-use Rattle.audit_model.specs.Showing.{read_in_line}
-use Rattle.audit_model.specs.Auditing.{Living, begun, first_entry, reads_after, turned, with_line}
-use Rattle.audit_model.proofs.LinesWalked.{reads_more, steps}
-use Rattle.audit_sites.specs.Openings.{Opens}
-use Rattle.audit_sites.specs.Reads.{reads_of}
-use Rattle.audit_sites.specs.declared.opening.Opening.{Opening}
-use Rattle.audit_turns.specs.Goings.{GoesOn, Going, is_read}
-use Rattle.audit_words.specs.Shown.{entry_shown}
-use Rattle.transcript_audit.specs.AuditFollower.Holding.{IsPastOne, with_read}
+use Rattle.row_reasons.specs.AuditModel.Showing.{read_in_line}
+use Rattle.row_reasons.specs.AuditModel.Auditing.{Living, begun, first_entry, reads_after, turned, with_line}
+use Rattle.row_reasons.proofs.AuditModel.LinesWalked.{reads_more, steps}
+use Rattle.row_reasons.specs.AuditSites.Openings.{Opens}
+use Rattle.row_reasons.specs.AuditSites.Reads.{reads_of}
+use Rattle.row_reasons.specs.AuditSites.declared.opening.Opening.{Opening}
+use Rattle.row_reasons.specs.AuditTurns.Goings.{GoesOn, Going, is_read}
+use Rattle.row_reasons.specs.AuditWords.Shown.{entry_shown}
+use Rattle.row_reasons.specs.TranscriptAudit.AuditFollower.Holding.{IsPastOne, with_read}
 use Rattle.transcript_lines.specs.Contents.{line_of}
 use Rattle.transcript_lines.specs.declared.lines.ToldLine.{ToldLine}
 use Rattle.transcript_lines.specs.declared.lines.ToldLine.TheVariants as told
-use Rattle.basis_turns.specs.declared.shown_turn.ShownTurn.{ShownTurn}
-use Rattle.audit_reasons.specs.Explaining.{Explaining, LifeJudged, auditing, judged_now, life_judged, lines_of, said_of}
-use Rattle.audit_reasons.specs.Holding.{Closes, ClosesOne, Courses, Holds, IsLived, rows_judged, unturned}
+use Rattle.row_reasons.specs.BasisTurns.declared.shown_turn.ShownTurn.{ShownTurn}
+use Rattle.row_reasons.specs.ReasonLines.{LifeJudged, judged_now, life_judged, lines_of, said_of}
+use Rattle.row_reasons.specs.LifeHeld.{ClosesOne, Holds, IsLived, rows_judged, unturned}
+use Rattle.row_reasons.specs.declared.line.BasisLine.{BasisLine}
+use Rattle.row_reasons.specs.declared.lived.Lived.{Lived}
+use Rattle.row_reasons.proofs.TurnLaws.{begins_lived}
+use Rattle.audit_reasons.specs.Explaining.{Explaining, auditing}
+use Rattle.audit_reasons.specs.Holding.{Closes, Courses}
 use Rattle.audit_reasons.specs.declared.explainer.Course.{Course}
 use Rattle.audit_reasons.specs.declared.explainer.Course.TheVariants as courses
-use Rattle.audit_reasons.specs.declared.line.BasisLine.{BasisLine}
-use Rattle.audit_reasons.specs.declared.lived.Lived.{Lived}
-use Rattle.audit_reasons.proofs.TurnLaws.{begins_lived}
 
 -- ---- what a line leaves as it is
 

@@ -1,9 +1,5 @@
-pub mod Givings
-pub mod Reasoned
 pub mod LinesMade
 pub mod LivesSaid
 pub mod Accounted
-mod RowLaws
-mod TurnLaws
 mod CourseLaws
-pub use Rattle.transcript_audit.proofs.Evidence
+pub use Rattle.row_reasons.proofs.Evidence

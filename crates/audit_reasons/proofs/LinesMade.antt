@@ -15,24 +15,24 @@ use Rattle.world.specs.declared.rows.HostRow.TheVariants.{Addr, Route}
 use Rattle.world.specs.RowOrder.{has_row, row_cmp, row_cmp_total}
 use Rattle.conf_text.specs.Configurations.{Configuration}
 use Rattle.settings.specs.declared.interfaces.Managed.{Managed}
-use Rattle.evidence_words.specs.Entries.{Entry}
-use Rattle.evidence_words.specs.Inputs.{Site}
+use Rattle.row_reasons.specs.EvidenceWords.Entries.{Entry}
+use Rattle.row_reasons.specs.EvidenceWords.Inputs.{Site}
 use Rattle.transcript_model.specs.Told.{LifeTold, Told, TurnTold}
-use Rattle.audit_model.specs.Auditing.{is_judged}
-use Rattle.audit_model.specs.Showing.{Shown, managed_told, shown_after, shown_at_first, shown_next, site_told}
-use Rattle.audit_model.specs.Verdicts.{IsShown, LifeIsJust, RestsThen}
-use Rattle.audit_model.proofs.LivesWalked.{living_of, scene_of}
-use Rattle.transcript_audit.proofs.IfaceJudges.Among.{all_told}
-use Rattle.transcript_audit.specs.Verdicts.{HasBasisShown}
-use Rattle.basis_turns.specs.BasisShown.{FoundAreShown}
+use Rattle.row_reasons.specs.AuditModel.Auditing.{is_judged}
+use Rattle.row_reasons.specs.AuditModel.Showing.{Shown, managed_told, shown_after, shown_at_first, shown_next, site_told}
+use Rattle.row_reasons.specs.AuditModel.Verdicts.{IsShown, LifeIsJust, RestsThen}
+use Rattle.row_reasons.proofs.AuditModel.LivesWalked.{living_of, scene_of}
+use Rattle.row_reasons.proofs.IfaceJudges.Among.{all_told}
+use Rattle.row_reasons.specs.TranscriptAudit.Verdicts.{HasBasisShown}
+use Rattle.row_reasons.specs.BasisTurns.BasisShown.{FoundAreShown}
+use Rattle.row_reasons.specs.ReasonLines.{LifeJudged, basis_line, life_judged, line_in, lines_of, said_of}
+use Rattle.row_reasons.specs.Finding.{or_else, row_reason}
+use Rattle.row_reasons.specs.Reasons.{RowRests}
+use Rattle.row_reasons.specs.declared.line.BasisLine.{BasisLine}
+use Rattle.row_reasons.specs.declared.reason.Reason.{Reason}
+use Rattle.row_reasons.proofs.Givings.{all_given, each_given, each_kept, each_so, made_of, some_mapped}
+use Rattle.row_reasons.proofs.Reasoned.{address_rests, address_some}
 use Rattle.audit_reasons.specs.Accounts.{AreLinesAfter, AreLinesOf, AreReasons, HoldsAfter, if_judged, judged_last, last_judged}
-use Rattle.audit_reasons.specs.Explaining.{LifeJudged, basis_line, life_judged, line_in, lines_of, said_of}
-use Rattle.audit_reasons.specs.Finding.{or_else, row_reason}
-use Rattle.audit_reasons.specs.Reasons.{RowRests}
-use Rattle.audit_reasons.specs.declared.line.BasisLine.{BasisLine}
-use Rattle.audit_reasons.specs.declared.reason.Reason.{Reason}
-use Rattle.audit_reasons.proofs.Givings.{all_given, each_given, each_kept, each_so, made_of, some_mapped}
-use Rattle.audit_reasons.proofs.Reasoned.{address_rests, address_some}
 
 -- ---- rows
 

@@ -11,13 +11,14 @@ use Rattle.transcript_model.specs.LifeShapes.{AllFollow, FitsLife, Follows}
 use Rattle.transcript_model.specs.Told.{LifeTold, Told, TurnTold, body_lines, life_lines, lives_lines, turn_lines}
 use Rattle.transcript_model.specs.Transcripts.{FitsBody}
 use Rattle.transcript_read.specs.Bodies.{followed}
-use Rattle.audit_model.specs.Auditing.{Living, begun, turned, with_line}
-use Rattle.audit_model.specs.Showing.{Shown, shown_at_first, shown_next}
-use Rattle.audit_model.proofs.LinesWalked.{gathered, with_lines}
-use Rattle.audit_model.proofs.LivesWalked.{Scene, first_in_order, living_of, next_in_order, scene_of}
+use Rattle.row_reasons.specs.AuditModel.Auditing.{Living, begun, turned, with_line}
+use Rattle.row_reasons.specs.AuditModel.Showing.{Shown, shown_at_first, shown_next}
+use Rattle.row_reasons.proofs.AuditModel.LinesWalked.{gathered, with_lines}
+use Rattle.row_reasons.proofs.AuditModel.LivesWalked.{Scene, first_in_order, living_of, next_in_order, scene_of}
+use Rattle.row_reasons.specs.ReasonLines.{judged_now, life_judged}
+use Rattle.row_reasons.specs.Finding.{or_else}
 use Rattle.audit_reasons.specs.Accounts.{if_judged, judged_last, last_judged}
-use Rattle.audit_reasons.specs.Explaining.{Explaining, after, auditing, first, judged_now, life_judged}
-use Rattle.audit_reasons.specs.Finding.{or_else}
+use Rattle.audit_reasons.specs.Explaining.{Explaining, after, auditing, first}
 use Rattle.audit_reasons.proofs.LinesMade.{lived_of, lives_lived}
 
 -- ---- a line of a turn

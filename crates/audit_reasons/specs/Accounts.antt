@@ -2,15 +2,15 @@
 use Rattle.std.specs.Prelude.{◌≡◌, ℕ, ◌+◌, List, [], ◌∷◌, ◌++◌, filter, map, length, Option, Some, None, if◌then◌else◌}
 use Rattle.std.specs.List.{AllByRecursion}
 use Rattle.net_types.specs.FirstBadLine.{IsSpelled}
-use Rattle.transcript_audit.specs.declared.verdict.Verdict.{Verdict}
-use Rattle.transcript_audit.specs.declared.verdict.Verdict.TheVariants as verdicts
+use Rattle.row_reasons.specs.TranscriptAudit.declared.verdict.Verdict.{Verdict}
+use Rattle.row_reasons.specs.TranscriptAudit.declared.verdict.Verdict.TheVariants as verdicts
 use Rattle.transcript_model.specs.Told.{LifeTold, Told, TurnTold}
 use Rattle.transcript_model.specs.Transcripts.{SpellsTold}
-use Rattle.audit_model.specs.Auditing.{is_judged}
-use Rattle.audit_model.specs.Showing.{Shown, managed_told, shown_at_first, shown_next, site_told}
-use Rattle.audit_reasons.specs.Finding.{or_else}
-use Rattle.audit_reasons.specs.Reasons.{RowRests}
-use Rattle.audit_reasons.specs.declared.line.BasisLine.{BasisLine}
+use Rattle.row_reasons.specs.AuditModel.Auditing.{is_judged}
+use Rattle.row_reasons.specs.AuditModel.Showing.{Shown, managed_told, shown_at_first, shown_next, site_told}
+use Rattle.row_reasons.specs.Finding.{or_else}
+use Rattle.row_reasons.specs.Reasons.{RowRests}
+use Rattle.row_reasons.specs.declared.line.BasisLine.{BasisLine}
 
 -- ---- the last judged turn
 

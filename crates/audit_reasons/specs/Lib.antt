@@ -1,10 +1,8 @@
-pub mod Texts
-pub mod Reasons
-pub mod Finding
-pub mod Judging
 pub mod Explaining
 pub mod Holding
 pub mod Accounts
 pub mod Saying
-pub use Rattle.transcript_audit.specs.Evidence
-pub use Rattle.transcript_audit.specs as TranscriptAudit
+pub use Rattle.row_reasons.specs.Texts
+pub use Rattle.row_reasons.specs as RowReasons
+pub use Rattle.row_reasons.specs.Evidence
+pub use Rattle.row_reasons.specs.TranscriptAudit

@@ -1,17 +1,15 @@
 //! The verdict on a transcript, and why it is a yes.
 ghost use Rattle.std.specs.Prelude.{◌≡◌, ◌++◌, IfErr, IfOk};
-ghost use Rattle.transcript_audit.specs.Verdicts.{IsJudged};
+ghost use Rattle.row_reasons.specs.TranscriptAudit.Verdicts.{IsJudged};
 ghost use Rattle.transcript_read.specs.Whole.{IsNoTranscript};
+ghost use Rattle.row_reasons.specs.Texts.{line_text, lines_text};
 ghost use Rattle.audit_reasons.specs.Accounts.{AccountsFor};
 ghost use Rattle.audit_reasons.specs.Saying.{IsSaidOf};
-ghost use Rattle.audit_reasons.specs.Texts.{line_text, lines_text};
 
 use crate::explainer::Explainer;
-use crate::line::BasisLine;
-use basis_turns::found_bases_are_shown;
 use net_types::{NoMemory, append_bytes};
+use row_reasons::{AuditAnswer, BasisLine, Verdict, audit, found_bases_are_shown};
 use std::alloc::Global;
-use transcript_audit::{AuditAnswer, Verdict, audit};
 use transcript_read::{a_text_is_one_transcript, follow_transcript};
 
 /// What is said of a transcript, and of each address that its lives show at their end, after a yes.

@@ -8,23 +8,23 @@ ghost use Rattle.script_model.specs.Lines.{EndOfLife, Read, Start, Turn};
 ghost use Rattle.transcript_lines.specs.Bounds.{FitsTold};
 ghost use Rattle.transcript_lines.specs.Contents.{line_of, reading_of};
 ghost use Rattle.transcript_model.specs.LifeShapes.{Follows};
-ghost use Rattle.audit_model.specs.Auditing.{Living, turned, with_line};
-ghost use Rattle.audit_sites.specs.Hosts.{IsRead};
-ghost use Rattle.audit_sites.specs.Openings.{Opens};
-ghost use Rattle.audit_turns.specs.Goings.{going_in, going_of, is_read};
-ghost use Rattle.audit_words.specs.Shown.{entry_shown};
-ghost use Rattle.transcript_audit.specs.AuditFollower.Holding.{with_read};
-ghost use Rattle.audit_reasons.specs.Explaining.{Explaining, after, first, judged_now, life_judged, said_of};
-ghost use Rattle.audit_reasons.specs.Holding.{Closes, Courses, Explains, rows_judged};
+ghost use Rattle.row_reasons.specs.AuditModel.Auditing.{Living, turned, with_line};
+ghost use Rattle.row_reasons.specs.AuditSites.Hosts.{IsRead};
+ghost use Rattle.row_reasons.specs.AuditSites.Openings.{Opens};
+ghost use Rattle.row_reasons.specs.AuditTurns.Goings.{going_in, going_of, is_read};
+ghost use Rattle.row_reasons.specs.AuditWords.Shown.{entry_shown};
+ghost use Rattle.row_reasons.specs.TranscriptAudit.AuditFollower.Holding.{with_read};
+ghost use Rattle.row_reasons.specs.ReasonLines.{judged_now, life_judged, said_of};
+ghost use Rattle.row_reasons.specs.LifeHeld.{rows_judged};
+ghost use Rattle.audit_reasons.specs.Explaining.{Explaining, after, first};
+ghost use Rattle.audit_reasons.specs.Holding.{Closes, Courses, Explains};
 
-use crate::line::BasisLine;
-use crate::lived::{Lived, judged_rows};
-use audit_sites::{FileRead, Known, Managing, Opening};
-use audit_turns::{Going, what_goes_on_is_the_lifes};
-use audit_words::Entry;
-use basis_turns::ShownTurn;
 use conf_text::Conf;
 use net_types::{IfSpec, NoMemory};
+use row_reasons::{
+    BasisLine, Entry, FileRead, Going, Known, Lived, Managing, Opening, ShownTurn, judged_rows,
+    what_goes_on_is_the_lifes,
+};
 use std::alloc::Global;
 use transcript_lines::{FileReading, ToldLine};
 use transcript_read::Follower;

@@ -3,12 +3,6 @@
 
 mod account;
 mod explainer;
-mod finding;
-mod line;
-mod lived;
-mod reason;
 
 pub use account::{Account, explain, text_of};
-pub use line::BasisLine;
-pub use reason::Reason;
-pub use transcript_audit::{AuditAnswer, Verdict, a_verdict_is_one, audit};
+pub use row_reasons::{AuditAnswer, BasisLine, Reason, Verdict, a_verdict_is_one, audit};

@@ -9,3 +9,4 @@ pub mod Running
 pub mod Stepping
 pub mod ToldParts
 pub mod Touched
+pub use Rattle.iface_core.specs.IfaceMachines

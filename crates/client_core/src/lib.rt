@@ -27,4 +27,6 @@ pub use clients::{
 };
 pub use effects::{Resolver, Touched};
 pub use host_tables::Diff;
-pub use iface_core::{Beginning, Outs, Sending, Turn, TurnInput, earlier_of};
+pub use iface_core::{
+    Beginning, Outs, Sending, Turn, TurnInput, earlier_of, runs_dhcp4, runs_dhcp6,
+};

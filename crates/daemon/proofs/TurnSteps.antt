@@ -11,7 +11,7 @@ use Rattle.hook_child.specs.Supervision.{Supervision, idle}
 use Rattle.client_model.specs.IfaceTurns.{Turn}
 use Rattle.client_model.specs.Clients.{Client, ClientStep, Sending, client_turned, opening, rows_of}
 use Rattle.client_model.specs.KeptLeases.{Beginning}
-use Rattle.iface_core.specs.Outcomes.{Asked}
+use Rattle.client_core.specs.IfaceMachines.Outcomes.{Asked}
 use Rattle.script_model.specs.Lines as lines
 use Rattle.client_core.specs.Stepping.{Steps}
 use Rattle.device_calls.specs.Programs.{Asks, after}

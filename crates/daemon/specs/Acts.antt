@@ -2,7 +2,7 @@
 use Rattle.std.specs.Prelude.{ℕ, List, [], map, Option}
 use Rattle.world.specs.declared.rows.HostRow.{HostRow}
 use Rattle.world.specs.HookCalls.{job_of}
-use Rattle.iface_core.specs.Outcomes.{sends_in}
+use Rattle.client_core.specs.IfaceMachines.Outcomes.{sends_in}
 use Rattle.settings.specs.declared.interfaces.Managed.{Managed}
 use Rattle.client_model.specs.Clients.{ClientStep, rows_of}
 use Rattle.device_calls.specs.Does.{Does}

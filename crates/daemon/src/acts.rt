@@ -2,7 +2,7 @@
 ghost use Rattle.std.specs.Prelude.{◌≡◌, ◌<◌, ◌^◌, List, Option, IfOk, IfErr};
 ghost use Rattle.std.specs.List.{AllByRecursion};
 ghost use Rattle.world.specs.declared.rows.HostRow.{HostRow};
-ghost use Rattle.iface_core.specs.Outcomes.{sends_in};
+ghost use Rattle.client_core.specs.IfaceMachines.Outcomes.{sends_in};
 ghost use Rattle.client_model.specs.Clients.{rows_of};
 ghost use Rattle.client_core.specs.Stepping.{IsOnInterface};
 ghost use Rattle.daemon.specs.Acts.{ActsAs, BeginsActing};

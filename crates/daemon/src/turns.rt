@@ -4,7 +4,7 @@
 ghost use Rattle.std.specs.Prelude.{◌≡◌, false, [], ◌∷◌, IfOk, IfErr, OnOk, length};
 ghost use Rattle.world.specs.LinkCalls.{frame_len};
 ghost use Rattle.script_model.specs.Lines as lines;
-ghost use Rattle.iface_core.specs.Inputs.{event_of, bytes_of};
+ghost use Rattle.client_core.specs.IfaceMachines.Inputs.{event_of, bytes_of};
 ghost use Rattle.device_calls.specs.Printing.{Prints};
 ghost use Rattle.device_calls.specs.Fronts.{HasBegun};
 ghost use Rattle.turn_model.specs.Turns.{is_end, turn_asks};

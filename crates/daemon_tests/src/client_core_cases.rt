@@ -5,7 +5,7 @@ ghost use Rattle.std.specs.Prelude.{◌≡◌, map, IfOk};
 ghost use Rattle.net_types.specs.Moments.{IsMoment};
 ghost use Rattle.world.specs.Rows.{IsInterface};
 ghost use Rattle.client_model.specs.Fitting.{AreBeginnings, FitsBeginning};
-ghost use Rattle.iface_core.specs.Beginnings.{beginning_of};
+ghost use Rattle.client_core.specs.IfaceMachines.Beginnings.{beginning_of};
 
 use crate::interfaces::{DUID, managed};
 use client_core::{Beginning, Core, Turn, TurnInput, core_open, step};

@@ -23,9 +23,10 @@ use Rattle.turn_model.proofs.FilesInLifeTurns.{opening_files, turn_files}
 use Rattle.turn_model.proofs.FilesInOrder.{files_left_in_order}
 use Rattle.turn_model.proofs.UnlikeNames.{named_apart}
 use Rattle.dhcpcd.specs.FilesHeld.{KeepsRightly, AllKeepRightly}
-use Rattle.dhcpcd.specs.Replays.{IsScript, configuration_text, managed_in, Failing, Between, failing_in, at_first, pick_of, store_left, world_in, after_life}
-use Rattle.dhcpcd.proofs.ManagedApart.{managed_unlike}
-use Rattle.dhcpcd.proofs.Refusals.{in_force, ifaces_fit}
+use Rattle.text_works.specs.SpelledScripts.{IsScript, configuration_text, managed_in}
+use Rattle.dhcpcd.specs.Replays.{Failing, Between, failing_in, at_first, pick_of, store_left, world_in, after_life}
+use Rattle.text_works.proofs.ManagedApart.{managed_unlike}
+use Rattle.text_works.proofs.Refusals.{in_force, ifaces_fit}
 
 -- ---- the files of a store stand in order
 

@@ -15,7 +15,8 @@ use Rattle.conf_text.specs.Configurations.{Configuration}
 use Rattle.turn_model.specs.Foretold.{foretold_life}
 use Rattle.daemon.proofs.FileEvidence.StoreRuns.{foretold_whole}
 use Rattle.dhcpcd.specs.FilesHeld.{AllStayWhole}
-use Rattle.dhcpcd.specs.Replays.{managed_in, Failing, Between, failing_in, at_first, pick_of, store_left, world_in, after_life}
+use Rattle.text_works.specs.SpelledScripts.{managed_in}
+use Rattle.dhcpcd.specs.Replays.{Failing, Between, failing_in, at_first, pick_of, store_left, world_in, after_life}
 use Rattle.dhcpcd.proofs.FilesRightly.{put_in_turn, picked_in_order}
 
 -- a crash leaves a store of which nothing is unsettled

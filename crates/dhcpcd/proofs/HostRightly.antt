@@ -26,21 +26,22 @@ use Rattle.host_model.proofs.HostTableRows.{in_order_sorted}
 use Rattle.turn_model.proofs.HostInLifeTurns.{opening_holds, turn_in_life}
 use Rattle.conf_text.specs.Configurations.{Configuration, IsConfOf}
 use Rattle.conf_text.specs.Settings.{managed_of}
-use Rattle.audit_reasons.specs.Evidence.Laws.{AreNumbered, AreSharedWithOthers}
-use Rattle.audit_reasons.specs.Evidence.HeldAddresses.{mets_of, RestOnEvidence}
-use Rattle.lab_laws.proofs.LeaseEvidence.Joining.{LeaseRelation}
-use Rattle.audit_reasons.proofs.Evidence.Items.{items_have_basis}
-use Rattle.audit_reasons.proofs.Evidence.Leasing.{leases_based}
-use Rattle.audit_reasons.proofs.Evidence.HostRests.{opening_rests, turns_rest}
-use Rattle.audit_reasons.proofs.Evidence.Starts.{opening_starts, plain_opening_starts}
-use Rattle.audit_reasons.proofs.Evidence.Foretold.{foretold}
-use Rattle.dhcpcd.specs.Replays.{IsScript, configuration_text, managed_in, failing_in, at_first, Failing, Between, world_in, after_life}
+use Rattle.text_works.specs.Evidence.Laws.{AreNumbered, AreSharedWithOthers}
+use Rattle.text_works.specs.Evidence.HeldAddresses.{mets_of, RestOnEvidence}
+use Rattle.text_works.proofs.LeaseEvidence.Joining.{LeaseRelation}
+use Rattle.text_works.proofs.Evidence.Items.{items_have_basis}
+use Rattle.text_works.proofs.Evidence.Leasing.{leases_based}
+use Rattle.text_works.proofs.Evidence.HostRests.{opening_rests, turns_rest}
+use Rattle.text_works.proofs.Evidence.Starts.{opening_starts, plain_opening_starts}
+use Rattle.text_works.proofs.Evidence.Foretold.{foretold}
+use Rattle.text_works.specs.SpelledScripts.{IsScript, configuration_text, managed_in}
+use Rattle.dhcpcd.specs.Replays.{failing_in, at_first, Failing, Between, world_in, after_life}
 use Rattle.turn_model.specs.FilesInLife.{AreNamedApart}
 use Rattle.dhcpcd.proofs.FilesRightly.{apart}
 use Rattle.dhcpcd.proofs.LifeLeft.{left_in_order}
-use Rattle.dhcpcd.proofs.ManagedApart.{managed_numbered}
-use Rattle.dhcpcd.proofs.SharesApart.{shared_with_others}
-use Rattle.dhcpcd.proofs.Refusals.{spelled_fits, in_force, ifaces_fit}
+use Rattle.text_works.proofs.ManagedApart.{managed_numbered}
+use Rattle.text_works.proofs.SharesApart.{shared_with_others}
+use Rattle.text_works.proofs.Refusals.{spelled_fits, in_force, ifaces_fit}
 use Rattle.dhcpcd.specs.Sound.{BringsBytes}
 use Rattle.dhcpcd.specs.HostHeld.{lived_on, IsTurn, HoldsRightly, AllHoldRightly}
 

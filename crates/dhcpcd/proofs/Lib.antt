@@ -1,17 +1,4 @@
-pub mod OneReading
-pub mod Endings
-pub mod WorkLaws
-pub mod HeadLines
-pub mod Inputs
-pub mod OneWord
-pub mod AskedApart
-pub mod CheckTexts
-pub mod InputWorks
-pub mod Refusals
-pub mod ManagedApart
-pub mod LabsApart
-pub mod AuditLaws
-pub mod SharesApart
+pub mod ReplayAnswers
 pub mod WholeLife
 pub mod LifeLeft
 pub mod Joined
@@ -25,6 +12,5 @@ pub mod SafelyTold
 pub mod Replayed
 pub mod LiveAnswers
 pub mod LinesApart
-pub mod MakeLaws
-pub mod ImportLaws
 pub mod MakeAnswers
+pub use Rattle.text_works.proofs as TextWorks

@@ -25,7 +25,9 @@ use Rattle.turn_model.specs.HooksApart as turns
 use Rattle.turn_model.specs.HooksApart.{calls_of_others, Remainder, remainder_of, TurnSeen, turn_seen}
 use Rattle.turn_model.proofs.HooksApart.{hooks_apart}
 use Rattle.dhcpcd.specs.HooksApart.{is_of_others, lines_of_others, SameButHooks, HooksChangeNothing}
-use Rattle.dhcpcd.specs.Replays.{Failing, Between, failing_in, at_first, world_in, lines_in, life_in, after_life, store_left, lives_lines, lives_of_script, managed_in, head_lines, transcript}
+use Rattle.dhcpcd.specs.Replays.{Failing, Between, failing_in, at_first, world_in, lines_in, life_in, after_life, store_left, lives_lines, lives_of_script, transcript}
+use Rattle.text_works.specs.SpelledScripts.{managed_in}
+use Rattle.text_works.specs.Heads.{head_lines}
 
 -- ---- the lines of calls
 

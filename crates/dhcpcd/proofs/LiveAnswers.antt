@@ -3,7 +3,6 @@ use Rattle.std.specs.Prelude.{IfSome}
 use Rattle.std.proofs.Common.{ℕ, ◌≡◌, ◌<◌, ◌≤◌, List, [], length, Option, Some, None, Ok, inl, inr, refl, subst, arith}
 use Rattle.net_types.specs.declared.interface.IfSpec.{IfSpec}
 use Rattle.script_model.specs.Scripts.{FitInterfaces}
-use Rattle.settings.specs.Fitting.{AreManaged}
 use Rattle.conf_text.specs.Configurations.{Configuration, IsConfOf}
 use Rattle.conf_text.specs.Settings.{managed_of}
 use Rattle.device_calls.specs.Worlds.{Seen, world_of}
@@ -14,26 +13,20 @@ use Rattle.daemon.specs.Cuts.{Leaves}
 use Rattle.daemon.specs.Filed.{LeavesFiled}
 use Rattle.daemon.specs.Served.{Served}
 use Rattle.daemon.proofs.CutOffs.{front_none}
-use Rattle.dhcpcd.specs.declared.status.Status.{Status}
-use Rattle.dhcpcd.specs.declared.status.Status.TheVariants as status
-use Rattle.dhcpcd.specs.Checks.{TellsConfiguration}
-use Rattle.dhcpcd.specs.Input.{limit, IsInput, IsTooLong}
+use Rattle.text_works.specs.declared.status.Status.{Status}
+use Rattle.text_works.specs.declared.status.Status.TheVariants as status
+use Rattle.text_works.specs.Checks.{TellsConfiguration}
+use Rattle.text_works.specs.Input.{limit, IsInput, IsTooLong}
 use Rattle.dhcpcd.specs.Living.{Asked, Around, around, asked, head_of, IsServed, IsCutOff, IsHeadCut, IsLifeAnswer, IsUntouched, IsLived, IsLiveAnswer, HasLinkCause, CompletesLife}
-use Rattle.dhcpcd.specs.Refusals.{IsConfRefused}
-use Rattle.dhcpcd.specs.Statuses.{HasStatusCause, StopsReading, StopsWriting}
-use Rattle.dhcpcd.proofs.Endings.{configured, not_too_long}
+use Rattle.text_works.specs.Refusals.{IsConfRefused}
+use Rattle.text_works.specs.Statuses.{HasStatusCause, StopsReading, StopsWriting}
+use Rattle.text_works.proofs.Endings.{configured, not_too_long}
 use Rattle.daemon.proofs.FileEvidence.StoreRuns.{foretold_whole}
 use Rattle.daemon.proofs.SafeTexts.PlainConfigurations.{configured_texts_are_safe}
 use Rattle.dhcpcd.proofs.FilesRightly.{life_keeps}
 use Rattle.dhcpcd.proofs.HostRightly.{life_holds}
 use Rattle.dhcpcd.proofs.LivesHeld.{host_held, files_held, held_until_cut}
 use Rattle.dhcpcd.proofs.SafelyTold.{life_tells}
-use Rattle.dhcpcd.proofs.Refusals.{in_force}
-
--- the interfaces that are managed fit
-pub live_managed : (text : List ℕ) (conf : Configuration) (specs : List IfSpec) → IsConfOf text (Ok conf) → FitInterfaces specs
-    → AreManaged (managed_of conf specs)
-live_managed text conf specs is fits = let all = in_force text conf is specs fits in all.fit
 
 -- ---- a life
 

@@ -14,18 +14,19 @@ use Rattle.made_script.proofs.FitLines.{lines_fit}
 use Rattle.made_script.proofs.GoodConfLaws.{conf_is_good}
 use Rattle.transcript_summary.specs.Summaries.{summary}
 use Rattle.daemon.specs.Streams.{WritesSome, WritesLines}
-use Rattle.dhcpcd.specs.declared.settling.Settled.{Settled}
-use Rattle.dhcpcd.specs.declared.status.Status.{Status}
-use Rattle.dhcpcd.specs.declared.status.Status.TheVariants as status
-use Rattle.dhcpcd.specs.Input.{ReadsWithin, InputTold, Takes}
+use Rattle.text_works.specs.declared.settling.Settled.{Settled}
+use Rattle.text_works.specs.declared.status.Status.{Status}
+use Rattle.text_works.specs.declared.status.Status.TheVariants as status
+use Rattle.text_works.specs.Input.{ReadsWithin, InputTold, Takes}
 use Rattle.dhcpcd.specs.Living.{HasLinkCause}
 use Rattle.dhcpcd.specs.Making.{IsMade, IsMadeTranscript, IsMadeAnswer}
-use Rattle.dhcpcd.specs.Refusals.{IsConfRefused}
-use Rattle.dhcpcd.specs.Replays.{configuration_text, managed_in, transcript}
-use Rattle.dhcpcd.specs.Settling.{IsSettledAs}
-use Rattle.dhcpcd.specs.Statuses.{HasStatusCause, StopsWriting, Completes}
-use Rattle.dhcpcd.proofs.Endings.{stops_writing}
-use Rattle.dhcpcd.proofs.Refusals.{in_force}
+use Rattle.text_works.specs.Refusals.{IsConfRefused}
+use Rattle.text_works.specs.SpelledScripts.{configuration_text, managed_in}
+use Rattle.dhcpcd.specs.Replays.{transcript}
+use Rattle.text_works.specs.Settling.{IsSettledAs}
+use Rattle.text_works.specs.Statuses.{HasStatusCause, StopsWriting, Completes}
+use Rattle.text_works.proofs.Endings.{stops_writing}
+use Rattle.text_works.proofs.Refusals.{in_force}
 
 -- ---- the script is settled
 

@@ -3,11 +3,11 @@ use Rattle.std.proofs.Common.{ℕ, ◌≤◌, List, length, Option}
 use Rattle.replay_text.specs.ScriptContent.{script_of}
 use Rattle.conf_text.specs.Contents.{configuration}
 use Rattle.daemon.specs.Streams.{WritesLines}
-use Rattle.dhcpcd.specs.declared.settling.Settled.{Settled}
-use Rattle.dhcpcd.specs.Input.{limit, IsInput}
+use Rattle.text_works.specs.declared.settling.Settled.{Settled}
+use Rattle.text_works.specs.Input.{limit, IsInput}
 use Rattle.dhcpcd.specs.Replays.{transcript}
-use Rattle.dhcpcd.specs.Settling.{IsSettled}
-use Rattle.dhcpcd.specs.Statuses.{IsReplayed}
+use Rattle.text_works.specs.Settling.{IsSettled}
+use Rattle.dhcpcd.specs.Replaying.{IsReplayed}
 use Rattle.dhcpcd.proofs.HostRightly.{holds_rightly}
 use Rattle.dhcpcd.proofs.FilesRightly.{keeps_rightly}
 use Rattle.dhcpcd.proofs.FilesWhole.{stay_whole_in}

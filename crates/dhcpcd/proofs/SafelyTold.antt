@@ -23,11 +23,12 @@ use Rattle.daemon.proofs.SafeTexts.ConfiguredLives.{configured_lives_are_lives, 
 use Rattle.daemon.proofs.SafeTexts.LifeJobs.{life_jobs_are_safe}
 use Rattle.daemon.proofs.SafeTexts.LifeLines.{written_lines_are_safe}
 use Rattle.daemon.proofs.ExactTexts.ExactLives.{configured_jobs_are_exact}
-use Rattle.dhcpcd.specs.Replays.{IsScript, configuration_text, managed_in, failing_in, at_first, Failing, Between, world_in, after_life}
+use Rattle.text_works.specs.SpelledScripts.{IsScript, configuration_text, managed_in}
+use Rattle.dhcpcd.specs.Replays.{failing_in, at_first, Failing, Between, world_in, after_life}
 use Rattle.dhcpcd.specs.Sound.{BringsBytes}
 use Rattle.dhcpcd.specs.ToldSafely.{TellsSafely, AllTellSafely}
 use Rattle.dhcpcd.proofs.HostRightly.{life_octets}
-use Rattle.dhcpcd.proofs.Refusals.{each_fits, spelled_fits, ifaces_fit}
+use Rattle.text_works.proofs.Refusals.{each_fits, spelled_fits, ifaces_fit}
 
 -- what the turns heard is bytes
 told_octets : (managed : List Managed) (coming : List Given) (life : Life) (world : World) → AllByRecursion BringsBytes coming

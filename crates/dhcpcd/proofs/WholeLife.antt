@@ -23,7 +23,9 @@ use Rattle.world_mem.specs.StoreMem.StoreRecord.{StoreState}
 use Rattle.world_mem.specs.HookRecord.{HooksState}
 use Rattle.world_mem.specs.HostRecord.{HostState}
 use Rattle.dhcpcd.specs.Memory.{link_of}
-use Rattle.dhcpcd.specs.Replays.{Failing, Between, store_fails, world_in, lines_in, life_in, head_lines, lives_of_script, managed_in, transcript}
+use Rattle.dhcpcd.specs.Replays.{Failing, Between, store_fails, world_in, lines_in, life_in, lives_of_script, transcript}
+use Rattle.text_works.specs.Heads.{head_lines}
+use Rattle.text_works.specs.SpelledScripts.{managed_in}
 
 -- devices in memory
 pub record Held : Type 0 where

@@ -4,13 +4,13 @@ use Rattle.net_types.specs.declared.address.Mac.{Mac}
 use Rattle.net_types.specs.declared.interface.Name.{Name}
 use Rattle.device_calls.specs.Worlds.{Seen}
 use Rattle.capture_script.specs.CapturedScripts.{spec_of}
-use Rattle.dhcpcd.specs.Checks.{TellsConfiguration}
-use Rattle.dhcpcd.specs.Dumping.{dumping}
-use Rattle.dhcpcd.specs.Importing.{importing}
-use Rattle.dhcpcd.specs.Labs.{lab_work}
-use Rattle.dhcpcd.specs.Statuses.{TellsScript}
-use Rattle.dhcpcd.specs.Words.{AskReplay, AskCheck, AskDump, AskLab, AskLive, AsksImport}
-use Rattle.dhcpcd.specs.Works.{Serves}
+use Rattle.text_works.specs.Checks.{TellsConfiguration}
+use Rattle.text_works.specs.Dumping.{dumping}
+use Rattle.text_works.specs.Importing.{importing}
+use Rattle.text_works.specs.Labs.{lab_work}
+use Rattle.dhcpcd.specs.Replaying.{TellsScript}
+use Rattle.text_works.specs.Words.{AskReplay, AskCheck, AskDump, AskLab, AskLive, AsksImport}
+use Rattle.text_works.specs.Works.{Serves}
 
 -- `replay` is asked for, and the input tells a script
 abbrev pub AskGoodReplay : (words : List (List ℕ)) → (input : Option (List ℕ)) → Type 0

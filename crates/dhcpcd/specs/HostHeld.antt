@@ -10,7 +10,7 @@ use Rattle.host_model.specs.HostTable.{NoneFails, Table, unknown_table}
 use Rattle.device_calls.specs.Worlds.{World}
 use Rattle.turn_model.specs.Foretold.{opening_of, foretold_life}
 use Rattle.turn_model.specs.HostInLife.{Running, running_opened, running_turned, life_run, table_of, HoldsUnlessFailed}
-use Rattle.audit_reasons.specs.Evidence.HeldAddresses.{RestOnEvidence, WantsStaticAlone, WantsStaticOrKept}
+use Rattle.text_works.specs.Evidence.HeldAddresses.{RestOnEvidence, WantsStaticAlone, WantsStaticOrKept}
 use Rattle.dhcpcd.specs.Replays.{Failing, Between, world_in, after_life}
 
 -- No host call failed between two tables.

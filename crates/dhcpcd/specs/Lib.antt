@@ -1,4 +1,3 @@
-pub mod Input
 pub mod Memory
 pub mod Replays
 pub mod HooksApart
@@ -8,20 +7,8 @@ pub mod HostHeld
 pub mod HeldThrough
 pub mod FilesHeld
 pub mod ToldSafely
-pub mod Refusals
-pub mod Settling
-pub mod Statuses
-pub mod Works
-pub mod Checks
-pub mod Dumping
-pub mod Importing
-pub mod Labs
-pub mod LabsHeld
-pub mod Auditing
-pub mod Words
+pub mod Replaying
 pub mod GoodAsks
-pub mod MakeReading
-pub mod ImportReading
 pub mod Making
 pub mod Living
-pub mod Asked
+pub use Rattle.text_works.specs as TextWorks

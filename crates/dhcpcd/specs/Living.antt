@@ -1,13 +1,10 @@
 -- What `live` writes and answers: a configuration is read, and one life is lived over the devices.
-use Rattle.std.specs.Prelude.{ℕ, ◌≡◌, ◌<◌, ◌≤◌, ◌⊎◌, List, [], ◌∷◌, ◌++◌, length, Option, Ok, Err, IfSome}
+use Rattle.std.specs.Prelude.{ℕ, ◌≡◌, ◌<◌, ◌≤◌, ◌⊎◌, List, [], length, Option, Ok, Err, IfSome}
 use Rattle.std.specs.List.{AllByRecursion}
 use Rattle.net_types.specs.declared.interface.IfSpec.{IfSpec}
 use Rattle.world.specs.SoundStores as stores
 use Rattle.script_model.specs.Lines.{Line}
-use Rattle.script_model.specs.Lines as lines
-use Rattle.replay_text.specs.Blocks.{parts_of}
-use Rattle.replay_text.specs.ScriptContent.{conf_lines}
-use Rattle.conf_text.specs.Configurations.{Configuration, NoticeContent, IsConfOf}
+use Rattle.conf_text.specs.Configurations.{Configuration, IsConfOf}
 use Rattle.conf_text.specs.Settings.{managed_of}
 use Rattle.device_calls.specs.Worlds.{Seen, world_of}
 use Rattle.daemon.specs.FileEvidence.WholeFiles.{LivesWhole}
@@ -19,39 +16,16 @@ use Rattle.daemon.specs.Streams.{WritesLines, WritesFront}
 use Rattle.daemon.specs.Served.{Served}
 use Rattle.daemon.specs.Cuts.{Leaves}
 use Rattle.daemon.specs.Filed.{LeavesFiled}
-use Rattle.dhcpcd.specs.declared.status.Status.{Status}
-use Rattle.dhcpcd.specs.declared.status.Status.TheVariants as status
-use Rattle.dhcpcd.specs.Input.{limit, IsInput, IsTooLong}
-use Rattle.dhcpcd.specs.Refusals.{IsRefusal}
-use Rattle.dhcpcd.specs.Replays.{heading}
+use Rattle.text_works.specs.declared.status.Status.{Status}
+use Rattle.text_works.specs.declared.status.Status.TheVariants as status
+use Rattle.text_works.specs.Input.{limit, IsInput, IsTooLong}
+use Rattle.text_works.specs.Refusals.{IsRefusal}
+use Rattle.text_works.specs.Heads.{live_head}
 use Rattle.dhcpcd.specs.Sound.{IsSound}
 use Rattle.dhcpcd.specs.HostHeld.{HoldsRightly}
 use Rattle.dhcpcd.specs.HeldThrough.{HostHeldThrough, FilesHeldThrough, HeldUntilCut}
 use Rattle.dhcpcd.specs.FilesHeld.{KeepsRightly}
 use Rattle.dhcpcd.specs.ToldSafely.{TellsSafely}
-
--- ---- the lines before a life
-
--- what stands after the last line feed
-abbrev pub last_part : List (List ℕ) → List ℕ
-last_part [] = []
-last_part (part ∷ []) = part
-last_part (part ∷ next ∷ parts) = last_part (next ∷ parts)
-
-unfoldable pub unended : List ℕ → List ℕ
-unended text = last_part (parts_of text)
-
-abbrev pub unless_empty : List ℕ → List (List ℕ)
-unless_empty [] = []
-unless_empty (byte ∷ bytes) = (byte ∷ bytes) ∷ []
-
--- the lines of a text, of which the last one may lack its line feed
-abbrev pub text_lines : List ℕ → List (List ℕ)
-text_lines text = conf_lines text ++ unless_empty (unended text)
-
--- the configuration that was read, what of it does nothing, the interfaces, and the number of the one life
-unfoldable pub live_head : (conf : List ℕ) → List NoticeContent → List IfSpec → List Line
-live_head conf notices specs = heading (text_lines conf) notices specs ++ lines.Life 1 ∷ []
 
 -- ---- one life
 

@@ -5,9 +5,10 @@ use Rattle.conf_text.specs.Configurations.{Configuration, IsConfOf}
 use Rattle.made_script.specs.MadeLines.{made_lines}
 use Rattle.transcript_summary.specs.Summaries.{summary}
 use Rattle.daemon.specs.Streams.{WritesBytes, WritesSome}
-use Rattle.dhcpcd.specs.declared.status.Status.{Status}
-use Rattle.dhcpcd.specs.declared.status.Status.TheVariants as status
-use Rattle.dhcpcd.specs.Replays.{configuration_text, transcript}
+use Rattle.text_works.specs.declared.status.Status.{Status}
+use Rattle.text_works.specs.declared.status.Status.TheVariants as status
+use Rattle.text_works.specs.SpelledScripts.{configuration_text}
+use Rattle.dhcpcd.specs.Replays.{transcript}
 
 -- the text is the transcript of the script of so many rounds
 pub record IsMadeTranscript (rounds : ℕ) (text : List ℕ) : Type 0 where

@@ -1,6 +1,5 @@
 -- The transcript of a script: its head, and its lives one after another.
-use Rattle.std.specs.Prelude.{ℕ, ◌+◌, List, [], ◌∷◌, ◌++◌, map, flat_map, length, Option, Some, None, is_some, Ok}
-use Rattle.net_types.specs.FirstBadLine.{IsSpelled}
+use Rattle.std.specs.Prelude.{ℕ, ◌+◌, List, [], ◌∷◌, ◌++◌, length, Option, Some, None, is_some}
 use Rattle.net_types.specs.declared.interface.IfSpec.{IfSpec}
 use Rattle.settings.specs.declared.interfaces.Managed.{Managed}
 use Rattle.world.specs.declared.hooking.Poll.{Poll}
@@ -20,7 +19,7 @@ use Rattle.world_mem.specs.StoreMem.declared.crashes.Pick.{Pick}
 use Rattle.world_mem.specs.StoreMem.declared.crashes.Pick.TheVariants as pick
 use Rattle.world_mem.specs.StoreMem.CrashRecord.{after_crash}
 use Rattle.world_mem.specs.StoreMem.Fuse.{first_stopped}
-use Rattle.script_model.specs.ScriptTexts.{ScriptLines, LifeScript, ended}
+use Rattle.script_model.specs.ScriptTexts.{ScriptLines, LifeScript}
 use Rattle.script_model.specs.Lines.{Line}
 use Rattle.script_model.specs.Lines as lines
 use Rattle.device_calls.specs.Worlds.{World}
@@ -28,9 +27,9 @@ use Rattle.turn_model.specs.Lives.{OpeningMet, Met, life_after, life_lines}
 use Rattle.turn_model.specs.Foretold.{ForetoldLife, opening_of, foretold_life}
 use Rattle.turn_model.specs.HostInLife.{Running, running_opened}
 use Rattle.dhcpcd.specs.Memory.{link_told, first_hooks, first_host, first_store}
-use Rattle.replay_text.specs.LinesInOrder.{SpellsScript}
-use Rattle.conf_text.specs.Configurations.{Configuration, NoticeContent, IsConfOf}
-use Rattle.conf_text.specs.Settings.{managed_of}
+use Rattle.conf_text.specs.Configurations.{Configuration}
+use Rattle.text_works.specs.Heads.{head_lines}
+use Rattle.text_works.specs.SpelledScripts.{managed_in}
 
 -- the calls that fail, counted over all lives
 pub record Failing : Type 0 where
@@ -139,41 +138,11 @@ lives_lines managed specs failing between (life ∷ lives) =
 
 -- ---- the transcript
 
--- a word of the configuration that does nothing
-abbrev pub notice_line : NoticeContent → Line
-notice_line notice = lines.Notice notice.line notice.word
-
--- what precedes lives: the lines of the configuration, those of it that do nothing, and the interfaces
-abbrev pub heading : (conf : List (List ℕ)) → List NoticeContent → List IfSpec → List Line
-heading conf notices specs =
-    lines.Head ∷ (map lines.Conf conf ++ (map notice_line notices ++ map lines.Interface specs))
-
-unfoldable pub head_lines : ScriptLines → List NoticeContent → List Line
-head_lines script notices = heading script.conf notices script.ifaces
-
 -- the lives with these managed interfaces; others are told of, and left alone
 abbrev pub lives_of_script : List Managed → ScriptLines → List Line
 lives_of_script managed script =
     lives_lines managed script.ifaces (failing_in script.fails)
     (at_first script.rows script.files script.polls) script.lives
 
-abbrev pub managed_in : ScriptLines → Configuration → List Managed
-managed_in script conf = managed_of conf script.ifaces
-
 abbrev pub transcript : ScriptLines → Configuration → List Line
 transcript script conf = head_lines script conf.notices ++ lives_of_script (managed_in script conf) script
-
--- ---- which scripts are replayed
-
--- the bytes spell this script
-abbrev pub Spells : List ℕ → ScriptLines → Type 0
-Spells bytes script = IsSpelled SpellsScript bytes script
-
--- the text of its configuration
-abbrev pub configuration_text : ScriptLines → List ℕ
-configuration_text script = flat_map ended script.conf
-
--- the bytes spell this script, and it has this configuration
-pub record IsScript (bytes : List ℕ) (script : ScriptLines) (conf : Configuration) : Type 0 where
-  pub spelled : Spells bytes script
-  pub configured : IsConfOf (configuration_text script) (Ok conf)

@@ -6,17 +6,16 @@ ghost use Rattle.replay_text.specs.ScriptContent as content;
 ghost use Rattle.daemon.specs.Streams.{WritesFront, WritesLines};
 ghost use Rattle.dhcpcd.specs.Carried.{between_in, failing_with, life_over};
 ghost use Rattle.dhcpcd.specs.Replays.{after_life, lines_in, lives_of_script};
-ghost use Rattle.dhcpcd.specs.Statuses.{HasStatusCause, StopsWriting};
+ghost use Rattle.text_works.specs.Statuses.{HasStatusCause, StopsWriting};
 
 use crate::memory::{Between, Memory, at_first, devices, leave, left, numbers_of};
-use crate::status::Status;
-use crate::writing::begin_life;
 use daemon::{ServeEnd, serve};
 use net_types::IfSpec;
 use replay_text::{LifeLines, Script};
 use script_model::FailDevice;
 use settings::Managed;
 use std::alloc::Global;
+use text_works::{Status, begin_life};
 use world::Sink;
 
 /// Lives a life over the devices that the life before left, writes its lines, and gives what it leaves to the next one.

@@ -2,16 +2,14 @@
 ghost use Rattle.std.specs.Prelude.{◌≡◌, ◌≢◌, ◌≤◌, true, Err, IfOk, IfErr};
 ghost use Rattle.daemon.specs.Streams.{WritesBytes};
 ghost use Rattle.dhcpcd.specs.Making.{IsMadeAnswer, IsMade, IsMadeTranscript};
-ghost use Rattle.dhcpcd.specs.Statuses.{HasStatusCause, Completes};
+ghost use Rattle.text_works.specs.Statuses.{HasStatusCause, Completes};
 ghost use Rattle.made_script.specs.MadeLines.{made_lines};
-ghost use Rattle.dhcpcd.specs.Settling.{IsSettledAs};
+ghost use Rattle.text_works.specs.Settling.{IsSettledAs};
 
 use crate::replaying::write_transcript;
-use crate::settling::{Settled, settle_script};
-use crate::status::Status;
-use crate::writing::write_text;
 use made_script::made_script;
 use std::alloc::Global;
+use text_works::{Settled, Status, settle_script, write_text};
 use transcript_summary::summary;
 use world::Sink;
 use world_mem::MemSink;

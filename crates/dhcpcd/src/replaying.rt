@@ -6,18 +6,17 @@ ghost use Rattle.conf_text.specs.Contents.{configuration};
 ghost use Rattle.script_model.specs.Scripts.{FitsScript};
 ghost use Rattle.replay_text.specs.ScriptContent as content;
 ghost use Rattle.daemon.specs.Streams.{WritesFront, WritesLines};
-ghost use Rattle.dhcpcd.specs.Input.{ReadsWithin, input_told};
-ghost use Rattle.dhcpcd.specs.Replays.{managed_in, transcript};
-ghost use Rattle.dhcpcd.specs.Settling.{IsSettled};
-ghost use Rattle.dhcpcd.specs.Statuses.{HasStatusCause, StopsWriting, IsReplayed, IsAnswer, TellsScript, Completes};
+ghost use Rattle.text_works.specs.Input.{ReadsWithin, input_told};
+ghost use Rattle.text_works.specs.SpelledScripts.{managed_in};
+ghost use Rattle.dhcpcd.specs.Replays.{transcript};
+ghost use Rattle.text_works.specs.Settling.{IsSettled};
+ghost use Rattle.text_works.specs.Statuses.{HasStatusCause, StopsWriting, Completes};
+ghost use Rattle.dhcpcd.specs.Replaying.{IsReplayed, IsAnswer, TellsScript};
 
-use crate::input::read_all;
 use crate::lives::replay_lives;
-use crate::settling::{Settled, settle};
-use crate::status::Status;
-use crate::writing::write_head;
 use conf_text::notices;
 use std::alloc::Global;
+use text_works::{Settled, Status, read_all, settle, write_head};
 use world::{Sink, Source};
 
 /// Writes the head of a transcript, and then the lives.
@@ -50,7 +49,7 @@ pub fn write_transcript<O: Sink>(alloc: Global, settled: Settled, out: &mut O) -
 }
 
 /// Replays the script that the input spells.
-#[tactic(auto, using(crate::proofs::Refusals::settled_fit, crate::proofs::Endings::refused_answer, crate::proofs::Endings::stopped_answer, crate::proofs::Replayed::replayed))]
+#[tactic(auto, using(text_works::proofs::Refusals::settled_fit, crate::proofs::ReplayAnswers::refused_answer, crate::proofs::ReplayAnswers::stopped_answer, crate::proofs::Replayed::replayed))]
 fn replay_input<I: Source, O: Sink>(alloc: Global, input: &mut I, out: &mut O) -> Result<(), Status>
     ensures ok { IfOk result
         (λ _. IsReplayed (I.left input.old) (O.written out.old) (O.written out.new)

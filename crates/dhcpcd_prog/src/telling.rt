@@ -1,6 +1,6 @@
 //! The texts that the program prints about itself: its help and its version.
 
-ghost use Rattle.dhcpcd.specs.Statuses.{HasStatusCause};
+ghost use Rattle.dhcpcd.specs.TextWorks.Statuses.{HasStatusCause};
 ghost use Rattle.dhcpcd_prog.specs.Telling.{IsTold};
 
 use dhcpcd::{Status, write_text};

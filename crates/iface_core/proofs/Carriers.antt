@@ -1,14 +1,14 @@
 -- The carrier comes or goes, which is told first.
 use Rattle.std.proofs.Common.{ℕ, true, false, [], ◌∷◌, sym, subst}
 use Rattle.settings.specs.declared.interfaces.Managed.{Managed}
-use Rattle.hook_env.specs.Situations.{Nothing}
+use Rattle.iface_machines.specs.HookEnv.Situations.{Nothing}
 use Rattle.world.specs.declared.reasons.Reason.TheVariants.{NoCarrier}
 use Rattle.client_model.specs.declared.interfaces.Iface.{Iface}
 use Rattle.client_model.specs.declared.steps.News.TheVariants.{CarrierCame, CarrierWent}
 use Rattle.client_model.specs.Interfaces.{begins, carrier_comes, carrier_goes, machines_drop}
 use Rattle.client_model.specs.Jobs.{own}
-use Rattle.iface_core.specs.Outcomes.{Asked, Goes, Tells, carrier_told}
-use Rattle.iface_core.proofs.Following.{goes_with_news}
+use Rattle.iface_machines.specs.Outcomes.{Asked, Goes, Tells, carrier_told}
+use Rattle.iface_machines.proofs.Following.{goes_with_news}
 use Rattle.iface_core.proofs.Staying.{begins_stays}
 
 module _ (at salt : ℕ) (old new : Iface) (none some all : Asked) where

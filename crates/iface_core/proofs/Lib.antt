@@ -1,9 +1,4 @@
-pub mod AskedCodes
-pub mod Asks6
-pub mod HeldBefore6
-pub mod Following
-pub mod Following6
 pub mod Staying
 pub mod Carriers
-pub mod ShareAddresses
-pub mod ToldLocals
+pub use Rattle.iface_machines.proofs.Following
+pub use Rattle.iface_machines.proofs.ShareAddresses

@@ -40,7 +40,7 @@ use Rattle.client_model.specs.Interfaces.{resting, begins, machines_rebind, carr
 use Rattle.client_model.specs.IfaceTurns.{Turn, hears, hears_either, hears_message, hears_message6, hears_packet, arp_heard, taken, input_step, iface_turned}
 use Rattle.client_model.specs.Fitting.{FitsBeginning, FitsIface}
 use Rattle.client_model.specs.KeptLeases.{Beginning}
-use Rattle.iface_core.specs.Outcomes.{Asked, Goes}
+use Rattle.iface_machines.specs.Outcomes.{Asked, Goes}
 
 pub record Stays (old new : Iface) : Type 0 where
   pub managed : new.managed ≡ old.managed

@@ -1,6 +1,6 @@
-pub mod Beginnings
-pub mod CodeSets
-pub mod Inputs
 pub mod Looks
-pub mod Outcomes
-pub mod Shares
+pub use Rattle.iface_machines.specs.Beginnings
+pub use Rattle.iface_machines.specs as IfaceMachines
+pub use Rattle.iface_machines.specs.Inputs
+pub use Rattle.iface_machines.specs.Outcomes
+pub use Rattle.iface_machines.specs.Shares

@@ -15,16 +15,15 @@ ghost use Rattle.script_model.specs.IfaceSets.{is_in, is_up};
 ghost use Rattle.client_model.specs.Fitting.{FitsBeginning};
 ghost use Rattle.client_model.specs.IfaceSteps.{index_of};
 ghost use Rattle.client_model.specs.Interfaces as run;
-ghost use Rattle.iface_core.specs.Beginnings.{beginning_of};
+ghost use Rattle.iface_machines.specs.Beginnings.{beginning_of};
 ghost use Rattle.iface_core.specs.Looks.{looked};
-ghost use Rattle.iface_core.specs.Outcomes.{Goes, asked_in};
+ghost use Rattle.iface_machines.specs.Outcomes.{Goes, asked_in};
 
-use crate::beginnings::Beginning;
-use crate::dhcp4::{begin_dhcp4, client_of, drop_dhcp4, rebind_dhcp4, stop_dhcp4};
-use crate::dhcp6::{begin_dhcp6, client6_of, drop_dhcp6, rebind_dhcp6, stop_dhcp6};
-use crate::local::{arm_unless_held, begin_local, drop_local};
-use crate::outs::Outs;
 use client_model::{Iface, TimedMachine};
+use iface_machines::{
+    Beginning, Outs, arm_unless_held, begin_dhcp4, begin_dhcp6, begin_local, client_of, client6_of,
+    drop_dhcp4, drop_dhcp6, drop_local, rebind_dhcp4, rebind_dhcp6, stop_dhcp4, stop_dhcp6,
+};
 use ipv4ll::{ll_held, ll_off};
 use lease_text::Lease4;
 use lease6_text::Lease6;

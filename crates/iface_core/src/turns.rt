@@ -9,28 +9,24 @@ ghost use Rattle.world.specs.Rows.{IsInterface};
 ghost use Rattle.client_model.specs.IfaceSteps.{index_of};
 ghost use Rattle.v6_frames.specs.Heard.{heard6_in};
 ghost use Rattle.client_model.specs.Interfaces as run;
-ghost use Rattle.client_model.specs.IfaceTurns.{arp_heard, hears, hears_message6, hears_packet, iface_turned};
-ghost use Rattle.iface_core.specs.Inputs.{hears_server, input_of, turn_of};
+ghost use Rattle.client_model.specs.IfaceTurns.{hears, hears_message6, hears_packet, iface_turned};
+ghost use Rattle.iface_machines.specs.Inputs.{hears_server, input_of, turn_of};
 ghost use Rattle.iface_core.specs.Looks.{looked};
-ghost use Rattle.iface_core.specs.Outcomes.{Goes, asked_in};
+ghost use Rattle.iface_machines.specs.Outcomes.{Goes, asked_in};
 
-use crate::dhcp4::{hear_message, hear_packet, tick_dhcp4};
-use crate::dhcp6::{contest, hear_message6, tick_dhcp6};
-use crate::inputs::{Turn, TurnInput};
 use crate::interfaces::{carry, contains, halt, look, rebind, release};
-use crate::local::{hear_local, tick_local};
-use crate::outs::Outs;
 use client_model::{Iface, TimedMachine};
-use frame_link::{ArpView, arp_of, eth_of};
+use frame_link::ArpView;
+use iface_machines::{
+    Outs, Turn, TurnInput, arp_in_frame, contest, hear_local, hear_message, hear_message6,
+    hear_packet, tick_dhcp4, tick_dhcp6, tick_local,
+};
 use ipv4ll::ll_unsent;
 use machine::has_come;
 use net_types::{Mac, NoMemory};
 use v4_client::unsent4;
 use v4_frames::heard4_of;
 use v6_frames::heard6_of;
-
-/// The kind of an Ethernet frame that carries ARP (RFC 826).
-const ARP_KIND: u16 = 0x0806;
 
 /// A frame of the interface couldn't be sent in the turn before.
 pub fn iface_unsent(iface: &mut Iface, at: u64, salt: u64)
@@ -209,17 +205,6 @@ fn hear(
     match arp_in_frame(bytes) {
         Some(arp) => hear_arp(iface, &arp, turn, own, outs),
         None => hear_server(iface, bytes, turn, outs),
-    }
-}
-
-/// The ARP packet that a frame carries.
-pub fn arp_in_frame(bytes: &[u8]) -> Option<ArpView>
-    ensures { result ≡ arp_heard bytes.now }
-{
-    match eth_of(bytes) {
-        Some(frame) if frame.kind == ARP_KIND => arp_of(frame.body),
-        Some(_) => None,
-        None => None,
     }
 }
 

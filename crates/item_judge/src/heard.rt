@@ -14,7 +14,7 @@ ghost use Rattle.item_judge.specs.Turns.{reported_at};
 
 use crate::asking::{Asking, is_from, is_reply};
 use audit_words::{Entry, Site};
-use iface_core::asks_of;
+use iface_machines::asks_of;
 use net_types::{Ip6, NoMemory};
 use std::alloc::Global;
 use v6_client::{has_bytes, serves};

@@ -21,7 +21,7 @@ ghost use Rattle.lease_judge.specs.Watched.{HasMoment, HasMoments, hears_by, jud
 use crate::probes::LeaseProbes;
 use crate::watch::{Seen, Watch};
 use audit_words::{Entry, Site};
-use iface_core::settings_of;
+use iface_machines::settings_of;
 use net_types::{Net, NoMemory};
 use own_frames4::messages_of;
 use std::alloc::Global;

@@ -9,8 +9,8 @@ use Rattle.host_tables.specs.declared.union.Diff.{Diff}
 use Rattle.hook_child.specs.declared.child.Child.{Child}
 use Rattle.hook_child.specs.Supervision.{Supervision, Order, Start, Abandon, poll_order, after_poll, next_order, after_next}
 use Rattle.settings.specs.declared.interfaces.Managed.{Managed}
-use Rattle.iface_core.specs.declared.outs.Sending.{Sending}
-use Rattle.iface_core.specs.Outcomes.{sending_of}
+use Rattle.client_core.specs.IfaceMachines.declared.outs.Sending.{Sending}
+use Rattle.client_core.specs.IfaceMachines.Outcomes.{sending_of}
 use Rattle.host_model.specs.declared.changes.HostChange.{HostChange}
 use Rattle.host_model.specs.HostTable.{InRowOrder}
 use Rattle.host_model.specs.HostTurn.{changes}

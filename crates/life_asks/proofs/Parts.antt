@@ -8,8 +8,8 @@ use Rattle.world.specs.declared.rows.HostRow.{HostRow}
 use Rattle.world.specs.Rows.{IsRow}
 use Rattle.host_tables.specs.declared.union.Diff.{Diff}
 use Rattle.settings.specs.declared.interfaces.Managed.{Managed}
-use Rattle.iface_core.specs.declared.outs.Sending.{Sending}
-use Rattle.iface_core.specs.Outcomes.{sending_of}
+use Rattle.client_core.specs.IfaceMachines.declared.outs.Sending.{Sending}
+use Rattle.client_core.specs.IfaceMachines.Outcomes.{sending_of}
 use Rattle.host_model.specs.declared.changes.HostChange.{HostChange}
 use Rattle.host_model.specs.declared.changes.HostChange.TheVariants.{Remove, Add}
 use Rattle.host_model.specs.HostTurn.{changes}

@@ -5,7 +5,7 @@ ghost use Rattle.std.specs.Prelude.{◌≡◌, [], ◌∷◌, IfOk, IfErr, OnOk,
 ghost use Rattle.std.specs.List.{AllByRecursion};
 ghost use Rattle.world.specs.Rows.{IsInterface};
 ghost use Rattle.script_model.specs.Lines as lines;
-ghost use Rattle.iface_core.specs.Outcomes.{sending_of};
+ghost use Rattle.client_core.specs.IfaceMachines.Outcomes.{sending_of};
 ghost use Rattle.client_core.specs.Stepping.{IsOnInterface};
 ghost use Rattle.device_calls.specs.Calls.{Offer};
 ghost use Rattle.device_calls.specs.Programs.{Then, Done};

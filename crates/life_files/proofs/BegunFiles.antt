@@ -22,7 +22,7 @@ use Rattle.turn_model.specs.Opening.{removing, clearing_listed, clearing}
 use Rattle.life_files.specs.Loading.{loading_own, LoadsOwn}
 use Rattle.life_devices.proofs.Begins.{leads_on, begun_wider, one_dropped}
 use Rattle.life_files.proofs.Bringing.{settling, placing, syncing}
-use Rattle.life_files.proofs.KeptFiles.{brought}
+use Rattle.life_files.proofs.KeepingSteps.{brought}
 
 -- ---- a file that is brought to what it is to hold
 

@@ -1,5 +1,5 @@
 mod FileNames
 pub mod Bringing
 pub mod BegunFiles
-pub mod KeptFiles
+pub mod KeepingSteps
 pub mod LoadedFiles

@@ -8,7 +8,7 @@ use Rattle.client_model.specs.KeptLeases.{Beginning}
 use Rattle.device_calls.specs.Programs.{Asks, after}
 use Rattle.device_calls.specs.Worlds.{Seen}
 use Rattle.device_calls.specs.Does.{Does}
-use Rattle.iface_core.specs.Beginnings as code
+use Rattle.client_core.specs.IfaceMachines.Beginnings as code
 use Rattle.turn_model.specs.KeptFiles.{KeptFile, Duid}
 use Rattle.turn_model.specs.Loading as model
 use Rattle.turn_model.specs.Loading.{FilesLoaded, duid_file, reading_if, loading_one, loading, loading_files, file_with, files_by, files_of, beginning_of, beginnings_of}

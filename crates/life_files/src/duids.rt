@@ -7,7 +7,7 @@ ghost use Rattle.settings.specs.Fitting.{FitsManaged};
 ghost use Rattle.client_model.specs.ClientSettings6.{is_by_duid, needs_duid, some_need_duid};
 ghost use Rattle.client_model.specs.HostDuid.{host_duid};
 
-use iface_core::{runs_dhcp4, runs_dhcp6};
+use client_core::{runs_dhcp4, runs_dhcp6};
 use lease_file::Got;
 use net_types::NoMemory;
 use settings::{Identifier, Managed};

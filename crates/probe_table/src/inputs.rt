@@ -7,7 +7,7 @@ ghost use Rattle.audit_words.specs.Shown.{site_shown};
 use arp_acd::{is_contested, is_used};
 use audit_words::{Entry, Site};
 use frame_link::ArpView;
-use iface_core::arp_in_frame;
+use iface_machines::arp_in_frame;
 use net_types::{Ip4, Mac};
 use world::Event;
 

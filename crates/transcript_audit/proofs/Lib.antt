@@ -6,3 +6,5 @@ mod OneVerdict
 pub use Rattle.iface_judge.proofs.Evidence
 pub use Rattle.iface_judge.proofs as IfaceJudges
 pub use Rattle.iface_judge.proofs.KeptJudge
+pub use Rattle.iface_judge.proofs.AuditModel
+pub use Rattle.audit_follower.proofs.AuditSeats

@@ -1,6 +1,6 @@
 use Rattle.std.proofs.Common.{subst, sym}
-use Rattle.transcript_audit.specs.declared.verdict.Verdict.{Verdict}
-use Rattle.transcript_audit.specs.Verdicts.{IsJudged}
+use Rattle.row_reasons.specs.TranscriptAudit.declared.verdict.Verdict.{Verdict}
+use Rattle.row_reasons.specs.TranscriptAudit.Verdicts.{IsJudged}
 use Rattle.audit_reasons.specs.Accounts.{AccountsFor}
 use Rattle.audit_reasons.proofs.Accounted.{explained}
 use Rattle.audit_reasons.proofs.account.explain.Goals as goal

@@ -1,5 +1,5 @@
 use Rattle.std.proofs.Common.{◌≡◌, take}
-use Rattle.audit_reasons.specs.Texts.{lines_text}
+use Rattle.row_reasons.specs.Texts.{lines_text}
 use Rattle.audit_reasons.proofs.account.text_of.Given as goal
 
 abbrev pub invariant-lines : goal.invariant-lines

@@ -7,7 +7,7 @@ use Rattle.client_model.specs.IfaceSteps.{IfaceStep}
 use Rattle.client_model.specs.Interfaces.{opened}
 use Rattle.client_model.specs.Jobs.{jobs_along, jobs_among, told_in}
 use Rattle.client_model.specs.Jobs as jobs
-use Rattle.iface_core.specs.declared.beginnings.Beginning.{Beginning}
+use Rattle.iface_core.specs.IfaceMachines.declared.beginnings.Beginning.{Beginning}
 use Rattle.iface_core.specs.Beginnings.{beginning_of}
 use Rattle.iface_core.specs.Outcomes.{Asked, asked_in}
 use Rattle.client_core.specs.Stepping.{GoAll}

@@ -1,8 +1,8 @@
 use Rattle.std.proofs.Common.{List, Option, subst, sym}
 use Rattle.std.specs.Prelude.{map}
 use Rattle.world.specs.declared.rows.HostRow.{HostRow}
-use Rattle.iface_core.specs.declared.outs.Sending.{Sending}
-use Rattle.iface_core.specs.Outcomes.{sending_of}
+use Rattle.client_core.specs.IfaceMachines.declared.outs.Sending.{Sending}
+use Rattle.client_core.specs.IfaceMachines.Outcomes.{sending_of}
 use Rattle.client_model.specs.Clients.{rows_of}
 use Rattle.device_calls.specs.Does.{Does}
 use Rattle.turn_model.specs.Turns.{offering}

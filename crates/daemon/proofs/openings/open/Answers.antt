@@ -1,10 +1,10 @@
 use Rattle.std.proofs.Common.{ℕ, List, Option, None, map, refl, ap, subst}
 use Rattle.turn_model.specs.Turns.{end_at, is_past}
-use Rattle.iface_core.specs.Beginnings.{beginning_of}
-use Rattle.iface_core.specs.Outcomes.{asked_in}
+use Rattle.client_core.specs.IfaceMachines.Beginnings.{beginning_of}
+use Rattle.client_core.specs.IfaceMachines.Outcomes.{asked_in}
 use Rattle.world.specs.HookCalls.{job_of}
 use Rattle.daemon.specs.Lives.{life_of}
-use Rattle.life_files.proofs.KeptFiles.{all_but}
+use Rattle.life_files.proofs.KeepingSteps.{all_but}
 use Rattle.device_calls.specs.Does.{Does}
 use Rattle.turn_model.specs.KeptFiles.{KeptFile}
 use Rattle.turn_model.specs.Turns.{acting}

@@ -1,8 +1,8 @@
 use Rattle.std.proofs.Common.{◌≡◌, refl, sym, subst}
 use Rattle.std.specs.Prelude.{map}
 use Rattle.world.specs.HookCalls.{job_of}
-use Rattle.iface_core.specs.Inputs.{event_of, bytes_of}
-use Rattle.iface_core.specs.Outcomes.{asked_in}
+use Rattle.client_core.specs.IfaceMachines.Inputs.{event_of, bytes_of}
+use Rattle.client_core.specs.IfaceMachines.Outcomes.{asked_in}
 use Rattle.client_model.specs.IfaceTurns.{Turn}
 use Rattle.turn_model.specs.Turns.{input_of, turn_asks}
 use Rattle.client_model.specs.Clients.{rows_of}
@@ -10,7 +10,7 @@ use Rattle.daemon.specs.Lives.{life_of, IsBelowEnd}
 use Rattle.life_asks.specs.Tables.{known_in}
 use Rattle.life_asks.proofs.HostSteps.{wanted_in_order}
 use Rattle.daemon.proofs.StopMoments.{stop_below}
-use Rattle.life_files.proofs.KeptFiles.{kept_but}
+use Rattle.life_files.proofs.KeepingSteps.{kept_but}
 use Rattle.daemon.proofs.TurnSteps.{turn_made}
 use Rattle.device_calls.proofs.Begun.{begun_none, begun_all}
 use Rattle.life_devices.proofs.Begins.{on_err}

@@ -1,4 +1,4 @@
-use Rattle.dhcpcd.proofs.Endings.{completes}
+use Rattle.dhcpcd.proofs.ReplayAnswers.{completes}
 use Rattle.dhcpcd.proofs.replaying.replay.Goals as goal
 
 pub returns-in-Err-clause-complete : goal.returns-in-Err-clause-complete

@@ -2,10 +2,10 @@ use Rattle.std.proofs.Common.{refl, subst}
 use Rattle.daemon.proofs.Causes.{error_is}
 use Rattle.conf_text.specs.Contents.{configuration}
 use Rattle.replay_text.specs.ScriptContent.{script_of}
-use Rattle.dhcpcd.specs.Refusals.{IsRefused}
-use Rattle.dhcpcd.specs.Statuses.{IsAnswer}
-use Rattle.dhcpcd.specs.Replays.{IsScript}
-use Rattle.dhcpcd.proofs.Endings.{refused_answer, stopped_answer}
+use Rattle.text_works.specs.Refusals.{IsRefused}
+use Rattle.dhcpcd.specs.Replaying.{IsAnswer}
+use Rattle.text_works.specs.SpelledScripts.{IsScript}
+use Rattle.dhcpcd.proofs.ReplayAnswers.{refused_answer, stopped_answer}
 use Rattle.dhcpcd.proofs.replaying.replay_input.Goals as goal
 
 pub returns-in_err-settled-clause-err : goal.returns-in_err-settled-clause-err

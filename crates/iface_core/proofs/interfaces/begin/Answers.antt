@@ -4,8 +4,8 @@ use Rattle.client_model.specs.Dhcp4Steps.{begin_dhcp4, begin_local}
 use Rattle.client_model.specs.Dhcp6Steps.{begin_dhcp6}
 use Rattle.client_model.specs.IfaceSteps.{IfaceStep}
 use Rattle.client_model.proofs.SameInterfaces.{begin_local_same, begin_same, begin6_same}
-use Rattle.iface_core.specs.Outcomes.{asked_in}
-use Rattle.iface_core.proofs.Following6.{fits_about, goes_about}
+use Rattle.iface_machines.specs.Outcomes.{asked_in}
+use Rattle.iface_machines.proofs.Following6.{fits_about, goes_about}
 use Rattle.iface_core.proofs.interfaces.begin.Goals as goal
 
 pub returns : goal.returns

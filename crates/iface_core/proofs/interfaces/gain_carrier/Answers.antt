@@ -1,5 +1,5 @@
 use Rattle.std.proofs.lemmas.Result.{on_ok_weaker}
-use Rattle.iface_core.specs.Outcomes.{asked_in}
+use Rattle.iface_machines.specs.Outcomes.{asked_in}
 use Rattle.iface_core.proofs.Carriers.{goes_comes}
 use Rattle.iface_core.proofs.interfaces.gain_carrier.Goals as goal
 

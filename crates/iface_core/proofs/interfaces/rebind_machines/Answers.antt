@@ -4,8 +4,8 @@ use Rattle.client_model.specs.Dhcp4Steps.{arms, rebind_dhcp4}
 use Rattle.client_model.specs.Dhcp6Steps.{rebind_dhcp6}
 use Rattle.client_model.specs.IfaceSteps.{IfaceStep}
 use Rattle.client_model.proofs.SameInterfaces.{arms_same, rebind_same, rebind6_same}
-use Rattle.iface_core.specs.Outcomes.{asked_in}
-use Rattle.iface_core.proofs.Following6.{fits_about, goes_about}
+use Rattle.iface_machines.specs.Outcomes.{asked_in}
+use Rattle.iface_machines.proofs.Following6.{fits_about, goes_about}
 use Rattle.iface_core.proofs.interfaces.rebind_machines.Goals as goal
 
 pub returns : goal.returns

@@ -1,5 +1,5 @@
-use Rattle.iface_core.specs.Beginnings.{beginning_of}
-use Rattle.iface_core.proofs.Asks6.{kept6_fits}
+use Rattle.iface_machines.specs.Beginnings.{beginning_of}
+use Rattle.iface_machines.proofs.Asks6.{kept6_fits}
 use Rattle.iface_core.proofs.interfaces.rest.Goals as goal
 
 pub client6_of-requires-clause-kept : goal.client6_of-requires-clause-kept

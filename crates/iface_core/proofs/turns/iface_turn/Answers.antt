@@ -5,10 +5,10 @@ use Rattle.client_model.specs.declared.interfaces.Iface.{Iface}
 use Rattle.client_model.specs.IfaceSteps.{IfaceStep}
 use Rattle.client_model.specs.Interfaces.{ticked, unsent_in}
 use Rattle.client_model.specs.IfaceTurns.{Turn, input_step}
-use Rattle.iface_core.specs.Inputs.{turn_of}
-use Rattle.iface_core.specs.Outcomes.{Goes, asked_in}
+use Rattle.iface_machines.specs.Inputs.{turn_of}
+use Rattle.iface_machines.specs.Outcomes.{Goes, asked_in}
 use Rattle.client_model.proofs.SameInterfaces.{input_same, ticked_same, unsent_same}
-use Rattle.iface_core.proofs.Following.{fits_after, goes_then}
+use Rattle.iface_machines.proofs.Following.{fits_after, goes_then}
 use Rattle.iface_core.proofs.turns.iface_turn.Goals as goal
 
 pub returns-clause-goes : goal.returns-clause-goes

@@ -1,8 +1,8 @@
 use Rattle.std.proofs.Common.{ℕ, Option, sym, ap, ◌∙◌}
 use Rattle.machine.specs.Moment.{is_due}
 use Rattle.client_model.specs.Interfaces.{machine_ticked}
-use Rattle.iface_core.specs.Outcomes.{asked_in}
-use Rattle.iface_core.proofs.Following.{goes_quiet, not_due}
+use Rattle.iface_machines.specs.Outcomes.{asked_in}
+use Rattle.iface_machines.proofs.Following.{goes_quiet, not_due}
 use Rattle.iface_core.proofs.turns.tick_if_due.Goals as goal
 
 pub returns-else-has_come-clause-goes : goal.returns-else-has_come-clause-goes

@@ -1,7 +1,7 @@
 use Rattle.std.proofs.Common.{ℕ, ◌≡◌, ◌∷◌, sym, ap, subst, ◌∙◌, take, drop, length, ◌-◌}
 use Rattle.std.specs.Prelude.{map}
-use Rattle.iface_core.specs.declared.outs.Sending.{Sending}
-use Rattle.iface_core.specs.Outcomes.{sending_of}
+use Rattle.client_core.specs.IfaceMachines.declared.outs.Sending.{Sending}
+use Rattle.client_core.specs.IfaceMachines.Outcomes.{sending_of}
 use Rattle.device_calls.specs.Does.{Does}
 use Rattle.turn_model.specs.Turns.{offering}
 use Rattle.life_asks.proofs.Parts.{offering_none, offering_more, first_and_rest}

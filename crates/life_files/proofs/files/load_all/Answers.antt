@@ -1,5 +1,5 @@
 use Rattle.std.proofs.Common.{List, ◌++◌, map, refl, ap, ◌∙◌}
-use Rattle.iface_core.specs.Beginnings.{beginning_of}
+use Rattle.client_core.specs.IfaceMachines.Beginnings.{beginning_of}
 use Rattle.lease_file.specs.FileReads.{got_reading}
 use Rattle.turn_model.specs.KeptFiles.{KeptFile}
 use Rattle.life_files.proofs.LoadedFiles.{loads_all}

@@ -1,7 +1,7 @@
 use Rattle.std.proofs.Common.{[], ◌∷◌, ◌++◌, List, map, refl, sym, ap, subst, ◌∙◌, append-nil, ◌+◌, drop}
 use Rattle.client_model.specs.Fitting.{AreBeginnings, FitsBeginning}
-use Rattle.iface_core.specs.declared.beginnings.Beginning.{Beginning}
-use Rattle.iface_core.specs.Beginnings as code
+use Rattle.client_core.specs.IfaceMachines.declared.beginnings.Beginning.{Beginning}
+use Rattle.client_core.specs.IfaceMachines.Beginnings as code
 use Rattle.device_calls.specs.Does.{Does}
 use Rattle.turn_model.specs.Loading.{Loaded, loading}
 use Rattle.life_files.proofs.LoadedFiles.{loading_more, loading_end, loading_all, front_more, beginnings_more, files_more, fit_more}

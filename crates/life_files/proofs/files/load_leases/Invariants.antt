@@ -1,7 +1,7 @@
 use Rattle.std.proofs.Common.{ℕ, ◌≡◌, List, ◌++◌, map, drop}
 use Rattle.std.specs.Prelude.{flat_map}
 use Rattle.client_model.specs.Fitting.{AreBeginnings}
-use Rattle.iface_core.specs.Beginnings as code
+use Rattle.client_core.specs.IfaceMachines.Beginnings as code
 use Rattle.device_calls.specs.Worlds.{Seen}
 use Rattle.device_calls.specs.Does.{Does}
 use Rattle.device_calls.specs.Fronts.{HasBegun}

@@ -1,6 +1,6 @@
 use Rattle.std.proofs.Common.{sym, ap, map, ◌∙◌}
 use Rattle.std.specs.Option.{option_copied}
-use Rattle.iface_core.specs.Beginnings.{beginning_of}
+use Rattle.client_core.specs.IfaceMachines.Beginnings.{beginning_of}
 use Rattle.life_files.proofs.LoadedFiles.{loads_nothing}
 use Rattle.life_files.proofs.files.load_own.Goals as goal
 

@@ -1,5 +1,5 @@
 use Rattle.std.proofs.Common.{map, refl}
-use Rattle.iface_core.specs.Beginnings.{beginning_of}
+use Rattle.client_core.specs.IfaceMachines.Beginnings.{beginning_of}
 use Rattle.life_devices.proofs.Successes.{if_ok}
 use Rattle.life_files.proofs.LoadedFiles.{loads_with}
 use Rattle.std.specs.Prelude.{option_map}

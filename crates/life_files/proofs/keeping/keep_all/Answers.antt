@@ -2,7 +2,7 @@ use Rattle.std.proofs.Common.{List, sym, ap, subst, ◌∙◌, length}
 use Rattle.device_calls.specs.Does.{Does}
 use Rattle.turn_model.specs.KeptFiles.{KeptFile, keeping}
 use Rattle.life_files.specs.Keeping.{AreKept, AreKeptBut}
-use Rattle.life_files.proofs.KeptFiles.{stays_in_place}
+use Rattle.life_files.proofs.KeepingSteps.{stays_in_place}
 use Rattle.device_calls.specs.Fronts.{HasBegun}
 use Rattle.life_devices.proofs.Begins.{on_err}
 use Rattle.life_files.proofs.keeping.keep_all.Goals as goal

@@ -3,7 +3,7 @@ use Rattle.std.proofs.lemmas.List.{length-set}
 use Rattle.device_calls.specs.Does.{Does}
 use Rattle.turn_model.specs.KeptFiles.{KeptFile, keeping}
 use Rattle.life_files.specs.Keeping.{may_differ, IsKept}
-use Rattle.life_files.proofs.KeptFiles.{keeping_more, keeping_end, front_more, all_taken, kept_at, kept_more, kept_end, but_first, but_more, in_bounds, out_of_bounds}
+use Rattle.life_files.proofs.KeepingSteps.{keeping_more, keeping_end, front_more, all_taken, kept_at, kept_more, kept_end, but_first, but_more, in_bounds, out_of_bounds}
 use Rattle.life_devices.proofs.Begins.{on_err}
 use Rattle.life_files.proofs.BegunFiles.{keeping_begun, keeping_later}
 use Rattle.life_files.proofs.keeping.keep_each.Goals as goal

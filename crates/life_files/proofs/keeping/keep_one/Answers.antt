@@ -1,4 +1,4 @@
-use Rattle.life_files.proofs.KeptFiles.{keeps_untouched}
+use Rattle.life_files.proofs.KeepingSteps.{keeps_untouched}
 use Rattle.life_files.proofs.keeping.keep_one.Goals as goal
 
 pub returns-then-not-is_due-clause-does : goal.returns-then-not-is_due-clause-does

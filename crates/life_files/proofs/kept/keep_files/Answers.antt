@@ -1,7 +1,7 @@
 use Rattle.std.proofs.Common.{List, sym, subst, ◌∙◌}
 use Rattle.device_calls.specs.Fronts.{HasBegun}
 use Rattle.turn_model.specs.KeptFiles.{KeptFile, keeping}
-use Rattle.life_files.proofs.KeptFiles.{keeping_nothing, kept_still}
+use Rattle.life_files.proofs.KeepingSteps.{keeping_nothing, kept_still}
 use Rattle.life_devices.proofs.Begins.{on_err}
 use Rattle.life_files.proofs.kept.keep_files.Goals as goal
 

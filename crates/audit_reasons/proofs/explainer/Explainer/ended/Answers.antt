@@ -1,8 +1,8 @@
 use Rattle.std.proofs.Common.{ℕ, [], option_map, ap, ◌∙◌}
 use Rattle.world.specs.declared.wakes.Event.TheVariants.{Quiet}
-use Rattle.audit_model.specs.Auditing.{turned}
-use Rattle.audit_turns.specs.Goings.{going_of}
-use Rattle.audit_reasons.specs.Explaining.{judged_now, life_judged, said_of}
+use Rattle.row_reasons.specs.AuditModel.Auditing.{turned}
+use Rattle.row_reasons.specs.AuditTurns.Goings.{going_of}
+use Rattle.row_reasons.specs.ReasonLines.{judged_now, life_judged, said_of}
 use Rattle.audit_reasons.proofs.CourseLaws.{all_said, closes_so}
 use Rattle.audit_reasons.proofs.explainer.Explainer.ended.Goals as goal
 

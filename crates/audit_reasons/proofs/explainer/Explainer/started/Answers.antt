@@ -3,8 +3,8 @@ use Rattle.net_types.specs.declared.interface.IfSpec.{IfSpec}
 use Rattle.settings.specs.declared.interfaces.Managed.{Managed}
 use Rattle.conf_text.specs.Configurations.{Configuration}
 use Rattle.conf_text.specs.Settings.{managed_of}
-use Rattle.audit_sites.specs.Reads.{reads_of}
-use Rattle.audit_turns.specs.Goings.{going_of}
+use Rattle.row_reasons.specs.AuditSites.Reads.{reads_of}
+use Rattle.row_reasons.specs.AuditTurns.Goings.{going_of}
 use Rattle.audit_reasons.proofs.CourseLaws.{begun_goes_on}
 use Rattle.audit_reasons.proofs.explainer.Explainer.started.Goals as goal
 

@@ -1,5 +1,5 @@
 use Rattle.transcript_lines.specs.Contents.{line_of}
-use Rattle.audit_turns.specs.Goings.{going_of}
+use Rattle.row_reasons.specs.AuditTurns.Goings.{going_of}
 use Rattle.audit_reasons.proofs.CourseLaws.{course_told}
 use Rattle.audit_reasons.proofs.explainer.Explainer.told.Goals as goal
 

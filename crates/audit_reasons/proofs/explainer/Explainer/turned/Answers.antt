@@ -1,4 +1,4 @@
-use Rattle.audit_turns.specs.Goings.{going_of}
+use Rattle.row_reasons.specs.AuditTurns.Goings.{going_of}
 use Rattle.audit_reasons.proofs.CourseLaws.{closes_so, next_goes_on}
 use Rattle.audit_reasons.proofs.explainer.Explainer.turned.Goals as goal
 

@@ -1,7 +1,7 @@
 use Rattle.std.proofs.Common.{ap, ◌∙◌, refl}
 use Rattle.turn_model.specs.KeptFiles.{KeptFile, wanted_in, is_settled, keeping_one}
 use Rattle.life_files.specs.Files.{content_of}
-use Rattle.life_files.proofs.KeptFiles.{keeps_still, keeps_done}
+use Rattle.life_files.proofs.KeepingSteps.{keeps_still, keeps_done}
 use Rattle.device_calls.proofs.Begun.{begun_none}
 use Rattle.life_devices.proofs.Begins.{on_err}
 use Rattle.life_files.proofs.BegunFiles.{kept_begun}

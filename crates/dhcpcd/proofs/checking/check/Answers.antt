@@ -1,5 +1,0 @@
-use Rattle.dhcpcd.proofs.CheckTexts.{checking_is_decided}
-use Rattle.dhcpcd.proofs.checking.check.Goals as goal
-
-pub perform-requires : goal.perform-requires
-perform-requires g c = record { decided = checking_is_decided }

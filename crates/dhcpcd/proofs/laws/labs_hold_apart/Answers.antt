@@ -1,5 +1,0 @@
-use Rattle.dhcpcd.proofs.LabsApart as apart
-use Rattle.dhcpcd.proofs.laws.labs_hold_apart.Goals as goal
-
-pub returns : goal.returns
-returns c = apart.labs_hold_apart

@@ -1,0 +1,15 @@
+use Rattle.std.proofs.lemmas.Result.{on_ok_weaker}
+use Rattle.v6_client.specs.declared.states.Carrier6.TheVariants.{Down}
+use Rattle.v6_client.specs.Moves.{out_content}
+use Rattle.iface_machines.specs.Outcomes.{asked_in}
+use Rattle.iface_machines.proofs.Following.{as_told}
+use Rattle.iface_machines.proofs.Following6.{goes_carrier6}
+use Rattle.iface_machines.proofs.dhcp6.drop_dhcp6.Goals as goal
+
+pub returns : goal.returns
+returns c =
+    on_ok_weaker c.follow.result
+    (goes_carrier6 c.args.iface.now c.carrier6.new.c c.args.at c.args.salt (asked_in c.args.outs.now) (asked_in c.follow.new.outs)
+    (as_told c.args.at c.requires.at) Down
+    (out_content c.in_ok-out.out) c.in_ok-out.ensures)
+    c.follow.ensures
