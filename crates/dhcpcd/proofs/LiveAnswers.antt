@@ -13,22 +13,26 @@ use Rattle.daemon.specs.Cuts.{Leaves}
 use Rattle.daemon.specs.Filed.{LeavesFiled}
 use Rattle.daemon.specs.Served.{Served}
 use Rattle.daemon.proofs.CutOffs.{front_none}
-use Rattle.text_works.specs.declared.status.Status.{Status}
-use Rattle.text_works.specs.declared.status.Status.TheVariants as status
-use Rattle.text_works.specs.Checks.{TellsConfiguration}
-use Rattle.text_works.specs.Input.{limit, IsInput, IsTooLong}
+use Rattle.replayed_lives.specs.TextWorks.declared.status.Status.{Status}
+use Rattle.replayed_lives.specs.TextWorks.declared.status.Status.TheVariants as status
+use Rattle.replayed_lives.specs.TextWorks.Checks.{TellsConfiguration}
+use Rattle.replayed_lives.specs.TextWorks.Input.{limit, IsInput, IsTooLong}
 use Rattle.dhcpcd.specs.Living.{Asked, Around, around, asked, head_of, IsServed, IsCutOff, IsHeadCut, IsLifeAnswer, IsUntouched, IsLived, IsLiveAnswer, HasLinkCause, CompletesLife}
-use Rattle.text_works.specs.Refusals.{IsConfRefused}
-use Rattle.text_works.specs.Statuses.{HasStatusCause, StopsReading, StopsWriting}
-use Rattle.text_works.proofs.Endings.{configured, not_too_long}
+use Rattle.replayed_lives.specs.TextWorks.Refusals.{IsConfRefused}
+use Rattle.replayed_lives.specs.TextWorks.Statuses.{HasStatusCause, StopsReading, StopsWriting}
+use Rattle.replayed_lives.proofs.TextWorks.Endings.{configured, not_too_long}
+use Rattle.replayed_lives.proofs.TextWorks.Refusals.{live_managed}
 use Rattle.daemon.proofs.FileEvidence.StoreRuns.{foretold_whole}
 use Rattle.daemon.proofs.SafeTexts.PlainConfigurations.{configured_texts_are_safe}
-use Rattle.dhcpcd.proofs.FilesRightly.{life_keeps}
-use Rattle.dhcpcd.proofs.HostRightly.{life_holds}
+use Rattle.replayed_lives.proofs.FilesRightly.{life_keeps}
+use Rattle.replayed_lives.proofs.HostRightly.{life_holds}
 use Rattle.dhcpcd.proofs.LivesHeld.{host_held, files_held, held_until_cut}
-use Rattle.dhcpcd.proofs.SafelyTold.{life_tells}
+use Rattle.replayed_lives.proofs.SafelyTold.{life_tells}
 
 -- ---- a life
+
+-- what is configured for it is managed
+pub ruleset managed_fit_live = (live_managed)
 
 -- no device was asked, and nothing was written
 pub no_head : (ask : Asked) (out : Option (List ℕ)) (seen : Seen) → IsHeadCut ask (around out out seen seen)

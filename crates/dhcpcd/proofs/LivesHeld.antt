@@ -22,10 +22,10 @@ use Rattle.device_evidence.proofs.LifeParts.{turns_first}
 use Rattle.device_evidence.specs.Stretches.{all_calls}
 use Rattle.device_evidence.proofs.Filing.{stores_hold}
 use Rattle.device_evidence.proofs.Holding.{hosts_hold}
-use Rattle.dhcpcd.proofs.FilesRightly.{apart}
-use Rattle.text_works.proofs.ManagedApart.{managed_numbered}
-use Rattle.text_works.proofs.Refusals.{in_force}
-use Rattle.text_works.proofs.SharesApart.{shared_with_others}
+use Rattle.replayed_lives.proofs.FilesRightly.{apart}
+use Rattle.replayed_lives.proofs.TextWorks.ManagedApart.{managed_numbered}
+use Rattle.replayed_lives.proofs.TextWorks.Refusals.{in_force}
+use Rattle.replayed_lives.proofs.TextWorks.SharesApart.{shared_with_others}
 use Rattle.dhcpcd.specs.HeldThrough.{HostHeldThrough, FilesHeldThrough, HeldInCut, HeldUntilCut}
 
 module _ (text : List ℕ) (conf : Configuration) (is : IsConfOf text (Ok conf)) (specs : List IfSpec) (fits : FitInterfaces specs) where

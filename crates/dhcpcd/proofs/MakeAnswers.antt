@@ -14,19 +14,20 @@ use Rattle.made_script.proofs.FitLines.{lines_fit}
 use Rattle.made_script.proofs.GoodConfLaws.{conf_is_good}
 use Rattle.transcript_summary.specs.Summaries.{summary}
 use Rattle.daemon.specs.Streams.{WritesSome, WritesLines}
-use Rattle.text_works.specs.declared.settling.Settled.{Settled}
-use Rattle.text_works.specs.declared.status.Status.{Status}
-use Rattle.text_works.specs.declared.status.Status.TheVariants as status
-use Rattle.text_works.specs.Input.{ReadsWithin, InputTold, Takes}
+use Rattle.replayed_lives.specs.TextWorks.declared.settling.Settled.{Settled}
+use Rattle.replayed_lives.specs.TextWorks.declared.status.Status.{Status}
+use Rattle.replayed_lives.specs.TextWorks.declared.status.Status.TheVariants as status
+use Rattle.replayed_lives.specs.TextWorks.Input.{ReadsWithin, InputTold, Takes}
 use Rattle.dhcpcd.specs.Living.{HasLinkCause}
 use Rattle.dhcpcd.specs.Making.{IsMade, IsMadeTranscript, IsMadeAnswer}
-use Rattle.text_works.specs.Refusals.{IsConfRefused}
-use Rattle.text_works.specs.SpelledScripts.{configuration_text, managed_in}
-use Rattle.dhcpcd.specs.Replays.{transcript}
-use Rattle.text_works.specs.Settling.{IsSettledAs}
-use Rattle.text_works.specs.Statuses.{HasStatusCause, StopsWriting, Completes}
-use Rattle.text_works.proofs.Endings.{stops_writing}
-use Rattle.text_works.proofs.Refusals.{in_force}
+use Rattle.replayed_lives.specs.TextWorks.Refusals.{IsConfRefused}
+use Rattle.replayed_lives.specs.TextWorks.SpelledScripts.{configuration_text, managed_in}
+use Rattle.replayed_lives.specs.Replays.{transcript}
+use Rattle.replayed_lives.specs.TextWorks.Settling.{IsSettledAs}
+use Rattle.replayed_lives.specs.TextWorks.Statuses.{HasStatusCause, StopsWriting, Completes}
+use Rattle.replayed_lives.proofs.TextWorks.AskedApart.{asked_apart}
+use Rattle.replayed_lives.proofs.TextWorks.Endings.{stops_writing}
+use Rattle.replayed_lives.proofs.TextWorks.Refusals.{in_force}
 
 -- ---- the script is settled
 
@@ -183,6 +184,9 @@ takes_nothing (Some bytes) = (omega arith, refl)
 
 pub reads_nothing : (told : InputTold) → ReadsWithin told told
 reads_nothing told = record { taken = 0; few = omega arith; takes = takes_nothing told.left; counted = λ in_range. omega arith; reads = omega arith }
+
+-- words ask for one work alone
+pub ruleset words_ask_apart = (asked_apart)
 
 -- what `make` comes to beside the input and the link
 pub ruleset make_beside = (cause_beside, no_link_cause, reads_nothing)

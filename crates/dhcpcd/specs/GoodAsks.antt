@@ -4,13 +4,13 @@ use Rattle.net_types.specs.declared.address.Mac.{Mac}
 use Rattle.net_types.specs.declared.interface.Name.{Name}
 use Rattle.device_calls.specs.Worlds.{Seen}
 use Rattle.capture_script.specs.CapturedScripts.{spec_of}
-use Rattle.text_works.specs.Checks.{TellsConfiguration}
-use Rattle.text_works.specs.Dumping.{dumping}
-use Rattle.text_works.specs.Importing.{importing}
-use Rattle.text_works.specs.Labs.{lab_work}
-use Rattle.dhcpcd.specs.Replaying.{TellsScript}
-use Rattle.text_works.specs.Words.{AskReplay, AskCheck, AskDump, AskLab, AskLive, AsksImport}
-use Rattle.text_works.specs.Works.{Serves}
+use Rattle.replayed_lives.specs.TextWorks.Checks.{TellsConfiguration}
+use Rattle.replayed_lives.specs.TextWorks.Dumping.{dumping}
+use Rattle.replayed_lives.specs.TextWorks.Importing.{importing}
+use Rattle.replayed_lives.specs.TextWorks.Labs.{lab_work}
+use Rattle.replayed_lives.specs.Replaying.{TellsScript}
+use Rattle.replayed_lives.specs.TextWorks.Words.{AskReplay, AskCheck, AskDump, AskLab, AskLive, AsksImport}
+use Rattle.replayed_lives.specs.TextWorks.Works.{Serves}
 
 -- `replay` is asked for, and the input tells a script
 abbrev pub AskGoodReplay : (words : List (List ℕ)) → (input : Option (List ℕ)) → Type 0

@@ -16,16 +16,16 @@ use Rattle.daemon.specs.Streams.{WritesLines, WritesFront}
 use Rattle.daemon.specs.Served.{Served}
 use Rattle.daemon.specs.Cuts.{Leaves}
 use Rattle.daemon.specs.Filed.{LeavesFiled}
-use Rattle.text_works.specs.declared.status.Status.{Status}
-use Rattle.text_works.specs.declared.status.Status.TheVariants as status
-use Rattle.text_works.specs.Input.{limit, IsInput, IsTooLong}
-use Rattle.text_works.specs.Refusals.{IsRefusal}
-use Rattle.text_works.specs.Heads.{live_head}
-use Rattle.dhcpcd.specs.Sound.{IsSound}
-use Rattle.dhcpcd.specs.HostHeld.{HoldsRightly}
+use Rattle.replayed_lives.specs.TextWorks.declared.status.Status.{Status}
+use Rattle.replayed_lives.specs.TextWorks.declared.status.Status.TheVariants as status
+use Rattle.replayed_lives.specs.TextWorks.Input.{limit, IsInput, IsTooLong}
+use Rattle.replayed_lives.specs.TextWorks.Refusals.{IsRefusal}
+use Rattle.replayed_lives.specs.TextWorks.Heads.{live_head}
+use Rattle.replayed_lives.specs.Sound.{IsSound}
+use Rattle.replayed_lives.specs.HostHeld.{HoldsRightly}
 use Rattle.dhcpcd.specs.HeldThrough.{HostHeldThrough, FilesHeldThrough, HeldUntilCut}
-use Rattle.dhcpcd.specs.FilesHeld.{KeepsRightly}
-use Rattle.dhcpcd.specs.ToldSafely.{TellsSafely}
+use Rattle.replayed_lives.specs.FilesHeld.{KeepsRightly}
+use Rattle.replayed_lives.specs.ToldSafely.{TellsSafely}
 
 -- ---- one life
 

@@ -5,10 +5,10 @@ use Rattle.conf_text.specs.Configurations.{Configuration, IsConfOf}
 use Rattle.made_script.specs.MadeLines.{made_lines}
 use Rattle.transcript_summary.specs.Summaries.{summary}
 use Rattle.daemon.specs.Streams.{WritesBytes, WritesSome}
-use Rattle.text_works.specs.declared.status.Status.{Status}
-use Rattle.text_works.specs.declared.status.Status.TheVariants as status
-use Rattle.text_works.specs.SpelledScripts.{configuration_text}
-use Rattle.dhcpcd.specs.Replays.{transcript}
+use Rattle.replayed_lives.specs.TextWorks.declared.status.Status.{Status}
+use Rattle.replayed_lives.specs.TextWorks.declared.status.Status.TheVariants as status
+use Rattle.replayed_lives.specs.TextWorks.SpelledScripts.{configuration_text}
+use Rattle.replayed_lives.specs.Replays.{transcript}
 
 -- the text is the transcript of the script of so many rounds
 pub record IsMadeTranscript (rounds : ℕ) (text : List ℕ) : Type 0 where

@@ -3,18 +3,18 @@ ghost use Rattle.std.specs.Prelude.{◌≡◌, ◌≢◌, ◌≤◌, [], true, f
 ghost use Rattle.script_model.specs.Scripts.{FitInterfaces};
 ghost use Rattle.conf_text.specs.Configurations.{IsConfOf};
 ghost use Rattle.conf_text.specs.Contents.{configuration};
-ghost use Rattle.text_works.specs.Checks.{TellsConfiguration};
+ghost use Rattle.replayed_lives.specs.TextWorks.Checks.{TellsConfiguration};
 ghost use Rattle.dhcpcd.specs.GoodAsks.{WaitsHeld, WaitsNeverFail};
-ghost use Rattle.text_works.specs.Input.{ReadsWithin, input_told};
+ghost use Rattle.replayed_lives.specs.TextWorks.Input.{ReadsWithin, input_told};
 ghost use Rattle.dhcpcd.specs.Living.{IsServed, IsLifeAnswer, IsLived, IsLiveAnswer, CompletesLife, HasLinkCause, around, asked};
-ghost use Rattle.text_works.specs.Statuses.{HasStatusCause};
+ghost use Rattle.replayed_lives.specs.TextWorks.Statuses.{HasStatusCause};
 
 use conf_laws::configuration_is_one;
 use conf_text::{Conf, managed, notices};
 use daemon::{Outside, ServeEnd, serve};
 use net_types::IfSpec;
+use replayed_lives::{Start, Status, read_all, read_configuration, write_live_head};
 use std::alloc::Global;
-use text_works::{Start, Status, read_all, read_configuration, write_live_head};
 use world::{Sink, Source};
 
 /// A configuration with its text, and the interfaces of the host.
@@ -26,7 +26,7 @@ struct Asked<'a> {
 }
 
 /// Writes the lines before a life, and lives it. `turns` are the wakes that it may handle.
-#[tactic(auto, using(text_works::proofs::Refusals::live_managed, crate::proofs::LiveAnswers::no_head, crate::proofs::LiveAnswers::head_cut, crate::proofs::LiveAnswers::served_whole, crate::proofs::LiveAnswers::cut_off, crate::proofs::LiveAnswers::out_of_memory))]
+#[tactic(auto, using(crate::proofs::LiveAnswers::managed_fit_live, crate::proofs::LiveAnswers::no_head, crate::proofs::LiveAnswers::head_cut, crate::proofs::LiveAnswers::served_whole, crate::proofs::LiveAnswers::cut_off, crate::proofs::LiveAnswers::out_of_memory))]
 fn live_on<O: Sink, W: Outside>(
     alloc: Global,
     ask: Asked<'_>,

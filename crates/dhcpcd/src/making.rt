@@ -2,14 +2,13 @@
 ghost use Rattle.std.specs.Prelude.{◌≡◌, ◌≢◌, ◌≤◌, true, Err, IfOk, IfErr};
 ghost use Rattle.daemon.specs.Streams.{WritesBytes};
 ghost use Rattle.dhcpcd.specs.Making.{IsMadeAnswer, IsMade, IsMadeTranscript};
-ghost use Rattle.text_works.specs.Statuses.{HasStatusCause, Completes};
+ghost use Rattle.replayed_lives.specs.TextWorks.Statuses.{HasStatusCause, Completes};
 ghost use Rattle.made_script.specs.MadeLines.{made_lines};
-ghost use Rattle.text_works.specs.Settling.{IsSettledAs};
+ghost use Rattle.replayed_lives.specs.TextWorks.Settling.{IsSettledAs};
 
-use crate::replaying::write_transcript;
 use made_script::made_script;
+use replayed_lives::{Settled, Status, settle_script, write_text, write_transcript};
 use std::alloc::Global;
-use text_works::{Settled, Status, settle_script, write_text};
 use transcript_summary::summary;
 use world::Sink;
 use world_mem::MemSink;

@@ -5,29 +5,28 @@ ghost use Rattle.std.specs.String.{string_bytes};
 ghost use Rattle.capture_script.specs.CapturedScripts.{spec_of};
 ghost use Rattle.net_types.specs.declared.address.Mac.{Mac};
 ghost use Rattle.net_types.specs.declared.interface.Name.{Name};
-ghost use Rattle.text_works.specs.Auditing.{IsAnsweredDuly, IsAuditAnswer, IsWhyAnswer};
-ghost use Rattle.text_works.specs.Checks.{IsCheckAnswer};
-ghost use Rattle.text_works.specs.Dumping.{IsDumpAnswer};
-ghost use Rattle.text_works.specs.Importing.{IsImportAnswer};
-ghost use Rattle.text_works.specs.Labs.{IsLabAnswer};
-ghost use Rattle.text_works.specs.LabsHeld.{IsHeldApart};
+ghost use Rattle.replayed_lives.specs.TextWorks.Auditing.{IsAnsweredDuly, IsAuditAnswer, IsWhyAnswer};
+ghost use Rattle.replayed_lives.specs.TextWorks.Checks.{IsCheckAnswer};
+ghost use Rattle.replayed_lives.specs.TextWorks.Dumping.{IsDumpAnswer};
+ghost use Rattle.replayed_lives.specs.TextWorks.Importing.{IsImportAnswer};
+ghost use Rattle.replayed_lives.specs.TextWorks.Labs.{IsLabAnswer};
+ghost use Rattle.replayed_lives.specs.TextWorks.LabsHeld.{IsHeldApart};
 ghost use Rattle.dhcpcd.specs.GoodAsks.{AskGoodReplay, AskGoodCheck, AskGoodDump, AskGoodImport, AskGoodLab, AskGoodLive, StreamsHeld, StreamsNeverFail, WaitsHeld, WaitsNeverFail};
-ghost use Rattle.text_works.specs.Input.{ReadsWithin, input_told};
+ghost use Rattle.replayed_lives.specs.TextWorks.Input.{ReadsWithin, input_told};
 ghost use Rattle.dhcpcd.specs.Living.{IsAnsweredLive, CompletesLife, HasLinkCause, around};
-ghost use Rattle.text_works.specs.Statuses.{HasStatusCause, Completes};
-ghost use Rattle.dhcpcd.specs.Replaying.{IsAnswer};
+ghost use Rattle.replayed_lives.specs.TextWorks.Statuses.{HasStatusCause, Completes};
+ghost use Rattle.replayed_lives.specs.Replaying.{IsAnswer};
 ghost use Rattle.dhcpcd.specs.Making.{IsMadeAnswer};
-ghost use Rattle.text_works.specs.Words.{AskAudit, AskCheck, AskDump, AskLab, AskReplay, AskLive, AskMake, AskWhy, AsksImport, AsksMake, AskWork, IsUsage};
+ghost use Rattle.replayed_lives.specs.TextWorks.Words.{AskAudit, AskCheck, AskDump, AskLab, AskReplay, AskLive, AskMake, AskWhy, AsksImport, AsksMake, AskWork, IsUsage};
 
 use crate::living::live;
 use crate::making::make;
-use crate::replaying::replay;
 use daemon::Outside;
-use std::alloc::Global;
-use text_works::{
+use replayed_lives::{
     Status, Work, audit_transcript, check, dump_lease, explain_transcript, import_capture, lab,
-    work_of,
+    replay, work_of,
 };
+use std::alloc::Global;
 use world::{NoMemory, Sink, Source};
 
 /// Does what the words after the program's name ask for. `replay` reads a script of at most 16,777,216 bytes from the
@@ -41,7 +40,7 @@ use world::{NoMemory, Sink, Source};
 /// are `Usage`, or `NoMemory` where they begin with `live`, and touch nothing. Where the input can't be read, is too
 /// long or is refused, nothing is written and no device is asked; after another end a front of the output stands
 /// written. No hook's child may run yet.
-#[tactic(auto, using(text_works::proofs::AskedApart::asked_apart, crate::proofs::MakeAnswers::make_beside))]
+#[tactic(auto, using(crate::proofs::MakeAnswers::words_ask_apart, crate::proofs::MakeAnswers::make_beside))]
 pub fn run<I: Source, O: Sink, W: Outside>(
     alloc: Global,
     words: &[String],

@@ -26,10 +26,10 @@ use Rattle.host_model.proofs.HostTableRows.{in_order_sorted}
 use Rattle.transcript_text.specs.Fits.{FitsPoll}
 use Rattle.told_lives.specs.FittingWorlds.{AreFitting, FitsComing, FitsHooks, FitsInput, FitsStore, FitsWorld}
 use Rattle.told_lives.proofs.FittingLists.{AreStored, order_fits, put_stored, undone_stored}
-use Rattle.dhcpcd.specs.Memory.{first_hooks, first_host, first_store}
-use Rattle.dhcpcd.specs.Replays.{Between, Failing, pick_of, store_left, world_in}
-use Rattle.dhcpcd.specs.Sound.{BringsBytes}
-use Rattle.dhcpcd.proofs.HostRightly.{life_octets}
+use Rattle.replayed_lives.specs.Memory.{first_hooks, first_host, first_store}
+use Rattle.replayed_lives.specs.Replays.{Between, Failing, pick_of, store_left, world_in}
+use Rattle.replayed_lives.specs.Sound.{BringsBytes}
+use Rattle.replayed_lives.proofs.HostRightly.{life_octets}
 
 -- ---- before the first life
 

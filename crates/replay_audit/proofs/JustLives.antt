@@ -19,15 +19,15 @@ use Rattle.turn_model.specs.Opening.{opening_asks}
 use Rattle.life_audit.specs.Evidence.Laws.{AreNumbered, AreSharedWithOthers}
 use Rattle.audit_model.specs.Verdicts.{BasisWord, LifeIsJust}
 use Rattle.life_audit.specs.Laws.{LinesRestOnEvidence, meets_told}
-use Rattle.dhcpcd.specs.Replays.{Between, Failing, after_life, at_first, failing_in, world_in}
-use Rattle.dhcpcd.specs.TextWorks.SpelledScripts.{IsScript, configuration_text, managed_in}
-use Rattle.dhcpcd.specs.Sound.{BringsBytes}
-use Rattle.dhcpcd.proofs.FilesRightly.{apart}
-use Rattle.dhcpcd.proofs.HostRightly.{life_octets, shares}
-use Rattle.dhcpcd.proofs.LifeLeft.{left_in_order}
-use Rattle.dhcpcd.proofs.TextWorks.ManagedApart.{managed_numbered}
-use Rattle.dhcpcd.proofs.TextWorks.Refusals.{ifaces_fit, managed_fit, spelled_fits}
-use Rattle.dhcpcd.proofs.TextWorks.SharesApart.{shared_with_others}
+use Rattle.replayed_lives.specs.Replays.{Between, Failing, after_life, at_first, failing_in, world_in}
+use Rattle.replayed_lives.specs.TextWorks.SpelledScripts.{IsScript, configuration_text, managed_in}
+use Rattle.replayed_lives.specs.Sound.{BringsBytes}
+use Rattle.replayed_lives.proofs.FilesRightly.{apart}
+use Rattle.replayed_lives.proofs.HostRightly.{life_octets, shares}
+use Rattle.replayed_lives.proofs.LifeLeft.{left_in_order}
+use Rattle.replayed_lives.proofs.TextWorks.ManagedApart.{managed_numbered}
+use Rattle.replayed_lives.proofs.TextWorks.Refusals.{ifaces_fit, managed_fit, spelled_fits}
+use Rattle.replayed_lives.proofs.TextWorks.SharesApart.{shared_with_others}
 use Rattle.replay_audit.specs.Laws.{LivesAreJustified}
 use Rattle.replay_audit.specs.ScriptsTold.{life_told, lives_told, told_of}
 

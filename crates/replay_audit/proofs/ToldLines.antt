@@ -8,9 +8,9 @@ use Rattle.script_model.specs.Lines as Model
 use Rattle.script_model.specs.ScriptTexts.{LifeScript}
 use Rattle.transcript_model.specs.Told as told
 use Rattle.audit_model.proofs.CallsTold.{lives_told_so}
-use Rattle.dhcpcd.specs.Replays.{Between, Failing, after_life, at_first, failing_in, life_in, lines_in, lives_lines, mets_in, opening_in}
-use Rattle.dhcpcd.specs.TextWorks.Heads.{head_lines, heading, notice_line}
-use Rattle.dhcpcd.specs.TextWorks.SpelledScripts.{managed_in}
+use Rattle.replayed_lives.specs.Replays.{Between, Failing, after_life, at_first, failing_in, life_in, lines_in, lives_lines, mets_in, opening_in}
+use Rattle.replayed_lives.specs.TextWorks.Heads.{head_lines, heading, notice_line}
+use Rattle.replayed_lives.specs.TextWorks.SpelledScripts.{managed_in}
 use Rattle.replay_audit.specs.Laws.{LinesAreTold}
 use Rattle.replay_audit.specs.ScriptsTold.{life_told, lives_told}
 

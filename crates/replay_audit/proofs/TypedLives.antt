@@ -8,7 +8,7 @@ use Rattle.transcript_model.specs.Told.{LifeTold, body_lines, head_lines, life_l
 use Rattle.typed_lines.specs.TypedLines.{AreTyped}
 use Rattle.typed_lines.proofs.TypedParts.{typed_parts}
 use Rattle.told_lives.specs.Laws.{IsTypedLife}
-use Rattle.dhcpcd.specs.Replays.{transcript}
+use Rattle.replayed_lives.specs.Replays.{transcript}
 use Rattle.replay_audit.specs.Laws.{LivesAreTyped}
 use Rattle.replay_audit.specs.ScriptsTold.{body_of}
 use Rattle.replay_audit.proofs.ToldLines.{lines_are_told}

@@ -28,11 +28,11 @@ use Rattle.told_lives.specs.FittingWorlds.{AreFitting}
 use Rattle.told_lives.specs.Laws.{IsShort, IsTypedLife, IsWellTold, LivesAreWellTold, TellsWell}
 use Rattle.told_texts.specs.Laws.{CanBeTold, IsPlain}
 use Rattle.told_texts.proofs.WholeTexts.{told_is_spelled}
-use Rattle.dhcpcd.specs.Replays.{Between, Failing, after_life, at_first, failing_in, mets_in, opening_in, transcript, world_in}
-use Rattle.dhcpcd.specs.TextWorks.SpelledScripts.{IsScript, configuration_text, managed_in}
-use Rattle.dhcpcd.specs.ToldSafely.{AllTellSafely}
-use Rattle.dhcpcd.proofs.TextWorks.Refusals.{each_fits, ifaces_fit, spelled_fits}
-use Rattle.dhcpcd.proofs.SafelyTold.{tells_safely}
+use Rattle.replayed_lives.specs.Replays.{Between, Failing, after_life, at_first, failing_in, mets_in, opening_in, transcript, world_in}
+use Rattle.replayed_lives.specs.TextWorks.SpelledScripts.{IsScript, configuration_text, managed_in}
+use Rattle.replayed_lives.specs.ToldSafely.{AllTellSafely}
+use Rattle.replayed_lives.proofs.TextWorks.Refusals.{each_fits, ifaces_fit, spelled_fits}
+use Rattle.replayed_lives.proofs.SafelyTold.{tells_safely}
 use Rattle.replay_audit.specs.Laws.{LivesAreJustified, LivesAreTyped, ReplaysAreJustified, TranscriptsAreJustified, transcript_text}
 use Rattle.replay_audit.specs.ScriptsTold.{body_of, lives_told, told_of}
 use Rattle.replay_audit.proofs.CountedLines.{ifaces_all, last_short, lives_all, lives_few, lives_short}

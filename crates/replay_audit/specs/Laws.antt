@@ -7,9 +7,9 @@ use Rattle.script_model.specs.ScriptTexts.{ScriptLines}
 use Rattle.transcript_model.specs.Told.{body_lines, head_lines}
 use Rattle.audit_model.specs.Verdicts.{BasisWord, IsYes, Justified, turns_told}
 use Rattle.told_lives.specs.Laws.{IsTypedLife}
-use Rattle.dhcpcd.specs.TextWorks.SpelledScripts.{IsScript}
-use Rattle.dhcpcd.specs.Replays.{transcript}
-use Rattle.dhcpcd.specs.Replaying.{IsReplayed}
+use Rattle.replayed_lives.specs.TextWorks.SpelledScripts.{IsScript}
+use Rattle.replayed_lives.specs.Replays.{transcript}
+use Rattle.replayed_lives.specs.Replaying.{IsReplayed}
 use Rattle.replay_audit.specs.ScriptsTold.{body_of, told_of}
 
 -- the lines of the transcript are those of what it tells

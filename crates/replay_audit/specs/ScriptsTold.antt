@@ -6,8 +6,8 @@ use Rattle.conf_text.specs.Configurations.{Configuration}
 use Rattle.script_model.specs.ScriptTexts.{LifeScript, ScriptLines}
 use Rattle.transcript_model.specs.Told.{BodyTold, LifeTold, Told}
 use Rattle.audit_model.specs.LivesTold.{life_lived}
-use Rattle.dhcpcd.specs.Replays.{Failing, Between, after_life, at_first, failing_in, mets_in, opening_in}
-use Rattle.dhcpcd.specs.TextWorks.SpelledScripts.{managed_in}
+use Rattle.replayed_lives.specs.Replays.{Failing, Between, after_life, at_first, failing_in, mets_in, opening_in}
+use Rattle.replayed_lives.specs.TextWorks.SpelledScripts.{managed_in}
 
 -- a life over the devices that the life before left
 abbrev pub life_told : List Managed → List IfSpec → Failing → Between → LifeScript → LifeTold

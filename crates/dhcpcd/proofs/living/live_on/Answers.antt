@@ -8,9 +8,9 @@ use Rattle.daemon.specs.Filed.{LeavesFiled}
 use Rattle.conf_text.specs.Configurations.{NoticeContent}
 use Rattle.daemon.specs.Streams.{WritesLines}
 use Rattle.dhcpcd.specs.Living.{asked}
-use Rattle.text_works.specs.Heads.{live_head}
+use Rattle.replayed_lives.specs.TextWorks.Heads.{live_head}
 use Rattle.daemon.specs.Served.{Served}
-use Rattle.text_works.proofs.Refusals.{live_managed}
+use Rattle.replayed_lives.proofs.TextWorks.Refusals.{live_managed}
 use Rattle.dhcpcd.proofs.LiveAnswers.{served_whole, cut_off, out_of_memory}
 use Rattle.dhcpcd.proofs.living.live_on.Goals as goal
 
