@@ -291,3 +291,9 @@ module _ {J : Type 0} (Tells : Telling J) where
   pub finds_none : (course : Course J) (living : Option Living) (unjust : Option Unjust) → is_found course ≡ false
       → Courses Tells course living unjust → Finds None unjust
   finds_none course living unjust other is = between_finds unjust (between_ended course living unjust other is)
+
+-- a file is read
+pub ruleset courses_read = (opening_read, within_read, between_read, found_stays)
+
+-- a turn is closed
+pub ruleset courses_close = (opening_closed, within_closed, between_closed, found_closed)

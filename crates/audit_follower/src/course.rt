@@ -85,7 +85,7 @@ impl<J: Judge + Drop> Course<J> {
     }
 
     /// With a file that was read, which counts in an opening alone.
-    #[tactic(auto, using(crate::proofs::CourseLaws::opening_read, crate::proofs::CourseLaws::within_read, crate::proofs::CourseLaws::between_read, crate::proofs::CourseLaws::found_stays))]
+    #[tactic(auto, using(crate::proofs::CourseLaws::courses_read))]
     pub fn with_read(self, name: Vec<u8>, reading: FileReading) -> Result<Course<J>, NoMemory>
         ensures { IfOk result
             (λ next. (living : Option Living) (unjust : Option model.Unjust)
@@ -117,7 +117,7 @@ impl<J: Judge + Drop> Course<J> {
     }
 
     /// With the turn that goes on, which is over.
-    #[tactic(auto, using(crate::proofs::CourseLaws::opening_closed, crate::proofs::CourseLaws::within_closed, crate::proofs::CourseLaws::between_closed, crate::proofs::CourseLaws::found_closed))]
+    #[tactic(auto, using(crate::proofs::CourseLaws::courses_close))]
     pub fn closed(self, alloc: Global, life: u64, going: &Going) -> Result<Course<J>, NoMemory>
         ensures { IfOk result
             (λ next. (living : Option Living) (unjust : Option model.Unjust) (at : ℕ) (event : Event) (bytes : List ℕ)

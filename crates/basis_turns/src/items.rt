@@ -16,7 +16,7 @@ use audit_words::Site;
 use item_judge::ItemJudge;
 use net_types::{Net6, NoMemory};
 use std::alloc::Global;
-use v6_client::IaAsk;
+use v6_items::IaAsk;
 
 /// The IAID of the IA_NA that has an address, and the turn of the newest Reply that gives it.
 #[derive(Clone, Copy)]

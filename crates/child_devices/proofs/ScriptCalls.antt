@@ -123,3 +123,6 @@ pub unprinted_so : (T : Type 0) (script : List ℕ) (start : Start) (kind : Erro
     → RunsScript script (codes "host-list" ∷ []) start → Does (Printed start (Err kind) ∷ []) old new → answer ≡ reason_of kind
     → ListsRowsOf {T = T} script old new before after (Err answer)
 unprinted_so T script start kind answer old new before after call asked why = inr (start, call, (Err kind, why, asked))
+
+-- what a run that prints was asked
+pub ruleset prints = (printed_so, unprinted_so)

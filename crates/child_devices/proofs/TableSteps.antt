@@ -174,3 +174,9 @@ printed_told script start output (Ok x) tables after old new lists tells done ap
       (tables script) (after script) (tells script));
 }
 printed_told script start output (Err answer) tables after old new lists tells done appends = appends
+
+-- what a run leaves of the table
+pub ruleset run_leaves = (unstarted_tables, run_tables)
+
+-- what it leaves of the table
+pub ruleset print_leaves = (noted_told, listing_keeps, printed_told)

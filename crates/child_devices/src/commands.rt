@@ -170,7 +170,7 @@ fn ended(answer: Result<ExitStatus, ErrorKind>) -> Result<(), ErrorKind>
 }
 
 /// Runs a script to its end.
-#[tactic(auto, using(crate::proofs::ScriptCalls::not_started, crate::proofs::ScriptCalls::ran, crate::proofs::TableSteps::unstarted_tables, crate::proofs::TableSteps::run_tables))]
+#[tactic(auto, using(crate::proofs::ScriptCalls::not_started, crate::proofs::ScriptCalls::ran, crate::proofs::TableSteps::run_leaves))]
 fn run<C: Children>(children: &mut C, call: &mut Command) -> Result<(), ErrorKind>
     ensures asked { Runs (start_of call.old) (C.calls children.old) (C.calls children.new) (failure_of result) }
     ensures tables { ChangesTold (start_of call.old) (failure_of result) (C.tables children.old)
@@ -209,7 +209,7 @@ pub struct CommandHost<C: Children + Drop> {
     faults: Faults,
 }
 
-#[tactic(auto, using(system_calls::proofs::Causing::counted_cause, crate::proofs::ScriptCalls::printed_so, crate::proofs::ScriptCalls::unprinted_so, crate::proofs::TableSteps::noted_told, crate::proofs::TableSteps::listing_keeps, crate::proofs::TableSteps::printed_told))]
+#[tactic(auto, using(system_calls::proofs::Causing::counted_cause, crate::proofs::ScriptCalls::prints, crate::proofs::TableSteps::print_leaves))]
 impl<C: Children + Drop> CommandHost<C> {
     /// The tables behind the script with this path. Nothing runs yet.
     pub fn new(alloc: Global, children: C, script: &str) -> Result<CommandHost<C>, NoMemory>

@@ -2,7 +2,7 @@
 -- host.
 use Rattle.std.specs.Prelude.{ℕ, Bool, true, false, not, ◌&&◌, ◌||◌, List, [], ◌∷◌, map}
 use Rattle.std.specs.List.{list_any}
-use Rattle.v6_client.specs.declared.setup.IaAsk.{IaAsk}
+use Rattle.v6_client.specs.V6Items.declared.asks.IaAsk.{IaAsk}
 use Rattle.v6_client.specs.declared.setup.Site6.{Site6}
 use Rattle.v6_client.specs.Settings.{SettingsContent}
 use Rattle.settings.specs.declared.dhcp6_conf.IaConf.{IaConf}

@@ -88,7 +88,8 @@ module _ (c : HostChange) (cs : List HostChange) (done : Bool) (told : HostTold)
   known_lost : (known : Option (List HostRow)) → done ≡ false → option_map (after_changes cs) (known_with done c known) ≡ None
   known_lost known e = ap (λ b. option_map (after_changes cs) (known_with b c known)) e
 
-  module _ (known result : Option (List HostRow)) (calls : List HostCall) (new : List HostRow) (rest : Changed cs (known_with done c known) result calls rows new) where
+  module _ (known result : Option (List HostRow)) (calls : List HostCall) (new : List HostRow)
+      (rest : Changed cs (known_with done c known) result calls rows new) where
     step_undone : (b : Bool) → list_all is_done calls ≡ b → (is_done (change_call c done) && b) ≡ false → result ≡ None
     step_undone false e all = rest.undone e
     step_undone true e all = (rest.done e).1 ∙ known_lost known (sym (call_done c done) ∙ sym (and_true (is_done (change_call c done))) ∙ all)

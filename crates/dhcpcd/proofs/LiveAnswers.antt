@@ -63,7 +63,8 @@ head_cut answer ask out out_to seen front stops = answers answer stops
     answers status.NoMemory stops = inl cut
 
 pub served_whole : (ask : Asked) (out middle out_to : Option (List ℕ)) (seen seen_to : Seen) → IsConfOf ask.text (Ok ask.conf) → FitInterfaces ask.specs
-    → WritesLines out middle (head_of ask) → Served ask.turns (managed_of ask.conf ask.specs) ask.specs seen seen_to middle out_to → LeavesFiled (managed_of ask.conf ask.specs) ask.specs seen seen_to
+    → WritesLines out middle (head_of ask) → Served ask.turns (managed_of ask.conf ask.specs) ask.specs seen seen_to middle out_to
+    → LeavesFiled (managed_of ask.conf ask.specs) ask.specs seen seen_to
     → IsServed ask (around out out_to seen seen_to)
 served_whole ask out middle out_to seen seen_to is fits head served files = record {
   middle = middle;
@@ -201,3 +202,9 @@ live_completes status.Unjustified specs turns input told a b p q tells read wrot
 live_completes status.TooLong specs turns input told a b p q tells read wrote linked answer cause =
     absurd (not_too_long input tells.bytes tells.told tells.in_limit answer.0)
 live_completes status.NoMemory specs turns input told a b p q tells read wrote linked answer cause = tt
+
+-- what a life comes to
+pub ruleset lives_end = (no_head, head_cut, served_whole, cut_off, out_of_memory)
+
+-- what `live` answers
+pub ruleset live_answers = (lived, live_answer, unread_live, refused_live)

@@ -190,3 +190,6 @@ pub ruleset words_ask_apart = (asked_apart)
 
 -- what `make` comes to beside the input and the link
 pub ruleset make_beside = (cause_beside, no_link_cause, reads_nothing)
+
+-- the life of a script that was made
+pub ruleset made_lives = (made_managed, made_manages, made_written, never_stopped)

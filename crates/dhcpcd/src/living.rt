@@ -26,7 +26,7 @@ struct Asked<'a> {
 }
 
 /// Writes the lines before a life, and lives it. `turns` are the wakes that it may handle.
-#[tactic(auto, using(crate::proofs::LiveAnswers::managed_fit_live, crate::proofs::LiveAnswers::no_head, crate::proofs::LiveAnswers::head_cut, crate::proofs::LiveAnswers::served_whole, crate::proofs::LiveAnswers::cut_off, crate::proofs::LiveAnswers::out_of_memory))]
+#[tactic(auto, using(crate::proofs::LiveAnswers::managed_fit_live, crate::proofs::LiveAnswers::lives_end))]
 fn live_on<O: Sink, W: Outside>(
     alloc: Global,
     ask: Asked<'_>,
@@ -72,7 +72,7 @@ fn live_on<O: Sink, W: Outside>(
 }
 
 /// Reads the configuration that the input is, and lives a life with it.
-#[tactic(auto, using(crate::proofs::LiveAnswers::lived, crate::proofs::LiveAnswers::live_answer, crate::proofs::LiveAnswers::unread_live, crate::proofs::LiveAnswers::refused_live))]
+#[tactic(auto, using(crate::proofs::LiveAnswers::live_answers))]
 fn live_input<I: Source, O: Sink, W: Outside>(
     alloc: Global,
     specs: &[IfSpec],

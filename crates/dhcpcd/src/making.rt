@@ -26,7 +26,7 @@ fn made_settled(alloc: Global, rounds: u64) -> Result<Settled, Status>
 }
 
 /// The transcript of the script of so many rounds. Memory never refuses a write.
-#[tactic(auto, using(crate::proofs::MakeAnswers::made_managed, crate::proofs::MakeAnswers::made_manages, crate::proofs::MakeAnswers::made_written, crate::proofs::MakeAnswers::never_stopped))]
+#[tactic(auto, using(crate::proofs::MakeAnswers::made_lives))]
 fn made_transcript(alloc: Global, rounds: u64) -> Result<MemSink, Status>
     requires some { 1 ≤ rounds }
     requires few { rounds ≤ 100 }

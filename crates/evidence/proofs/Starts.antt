@@ -31,7 +31,7 @@ use Rattle.lease6_evidence.specs.LeaseEvidence.HeldLeases.{configured_rows}
 use Rattle.lease6_evidence.proofs.LeaseEvidence.Beginnings.{begins_with_static_rows}
 use Rattle.evidence.specs.StaticBasis.{StaticBasis}
 use Rattle.net_types.specs.declared.address.Net6.{Net6}
-use Rattle.v6_client.specs.declared.setup.IaAsk.{IaAsk}
+use Rattle.v6_client.specs.V6Items.declared.asks.IaAsk.{IaAsk}
 use Rattle.v6_frames.specs.Heard.{HeardMessage6}
 use Rattle.world.specs.declared.wakes.Event.{Event}
 use Rattle.world.specs.declared.wakes.Event.TheVariants.{Frame, Quiet}

@@ -25,7 +25,7 @@ use Rattle.evidence_words.specs.Entries.{Entry}
 use Rattle.evidence_words.specs.Inputs.{Site}
 use Rattle.lease6_evidence.specs.KeptBasis6.{KeptBasis6}
 use Rattle.evidence_words.specs.TurnModel.FilesInLife.{AreNamedApart}
-use Rattle.v6_client.specs.declared.setup.IaAsk.{IaAsk}
+use Rattle.v6_client.specs.V6Items.declared.asks.IaAsk.{IaAsk}
 use Rattle.net_types.specs.declared.address.Net6.{Net6}
 
 -- what the turns of a life meet

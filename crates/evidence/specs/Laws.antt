@@ -33,7 +33,7 @@ use Rattle.lease6_evidence.specs.LeaseEvidence.LeaseBasis.{LeaseBasis}
 use Rattle.lease6_evidence.specs.HeldItems.{ItemRests}
 use Rattle.lease6_evidence.specs.ItemBasis.{AddressBasis}
 use Rattle.lease6_evidence.specs.KeptBasis6.{KeptAddress6, KeptBasis6}
-use Rattle.v6_client.specs.declared.setup.IaAsk.{IaAsk}
+use Rattle.v6_client.specs.V6Items.declared.asks.IaAsk.{IaAsk}
 
 -- a lease gives the address, now
 abbrev pub LeasedBasis : Site → Net → List Entry → Type 0

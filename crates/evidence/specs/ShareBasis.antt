@@ -8,7 +8,7 @@ use Rattle.net_types.specs.declared.interface.IfIndex.{IfIndex}
 use Rattle.prefix_share.specs.Subnets.{subnet_in}
 use Rattle.settings.specs.declared.dhcp6_conf.ShareConf.{ShareConf}
 use Rattle.settings.specs.declared.interfaces.Managed.{Managed}
-use Rattle.v6_client.specs.declared.setup.IaAsk.{IaAsk}
+use Rattle.v6_client.specs.V6Items.declared.asks.IaAsk.{IaAsk}
 use Rattle.v6_options.specs.declared.ia.IaKind.TheVariants.{Pd}
 use Rattle.client_model.specs.WantedRows.{first_address}
 use Rattle.evidence_words.specs.Entries.{Entry}

@@ -10,7 +10,7 @@ use Rattle.prefix_share.specs.SubnetLaws.{HasBits}
 use Rattle.settings.specs.declared.dhcp6_conf.IaConf.{IaConf}
 use Rattle.settings.specs.declared.dhcp6_conf.ShareConf.{ShareConf}
 use Rattle.settings.specs.Fitting.{FitsManaged}
-use Rattle.v6_client.specs.declared.setup.IaAsk.{IaAsk}
+use Rattle.v6_client.specs.V6Items.declared.asks.IaAsk.{IaAsk}
 use Rattle.v6_options.specs.declared.ia.IaKind.TheVariants.{Na, Pd}
 use Rattle.evidence_words.specs.Entries.{Entry}
 use Rattle.evidence_words.specs.Inputs.{Site}

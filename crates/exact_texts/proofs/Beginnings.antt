@@ -9,7 +9,7 @@ use Rattle.lease6_text.proofs.Apart.{Apart, apart_from, pairs_from}
 use Rattle.lease6_text.specs.Bounds.{FitsLease6, HasText6, IsDuid}
 use Rattle.lease6_text.specs.Leases.{Lease6Content}
 use Rattle.v4_client.specs.Clients as dhcp4
-use Rattle.v6_client.specs.Bounds.{FitsAsks, ask_key}
+use Rattle.v6_client.specs.V6Items.Bounds.{FitsAsks, ask_key}
 use Rattle.v6_client.specs.Clients as dhcp6
 use Rattle.settings.specs.Dhcp6Settings.{FitsIaConf, conf_key}
 use Rattle.settings.specs.Fitting.{AreManaged, FitsManaged}

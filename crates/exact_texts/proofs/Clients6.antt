@@ -26,10 +26,10 @@ use Rattle.v6_client.specs.Sound.{IsSound}
 use Rattle.v6_client.specs.Ticks.{tick_row}
 use Rattle.v6_client.specs.declared.states.Carrier6.{Carrier6}
 use Rattle.v6_client.specs.declared.states.Carrier6.TheVariants.{Up, Down}
-use Rattle.v6_client.specs.declared.states.Cause6.TheVariants.{Lapse, Duplicate}
+use Rattle.v6_client.specs.V6Items.declared.scope.Cause6.TheVariants.{Lapse, Duplicate}
 use Rattle.v6_client.specs.declared.states.Keep6.{Keep6}
 use Rattle.v6_client.specs.declared.states.Keep6.TheVariants.{Stays, Clears, Takes}
-use Rattle.v6_client.specs.declared.states.Parting6.{Parting6}
+use Rattle.v6_client.specs.V6Items.declared.scope.Parting6.{Parting6}
 use Rattle.v6_client.specs.declared.states.Step6.{Step6}
 use Rattle.v6_client.specs.declared.states.Tell6.{Tell6}
 use Rattle.v6_client.proofs.SettingsStay.{settings_stay}

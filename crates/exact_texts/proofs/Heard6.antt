@@ -31,9 +31,9 @@ use Rattle.v6_message.specs.declared.kind.ServerKind6.{ServerKind6}
 use Rattle.v6_message.specs.declared.reading.Bad6.{Bad6}
 use Rattle.v6_frames.specs.Heard.{HeardMessage6, heard6_in, is_for, is_to, message_for, message_to, with_source}
 use Rattle.lease6_text.specs.declared.lease.TheConstants.{ITEM_LIMIT}
-use Rattle.v6_client.proofs.SaidFits.{cons_all, take_all}
-use Rattle.v6_client.specs.Reading.{cleared, ia_for, is_for as is_ia_for, is_read, is_readable, read_item, read_items, saids_of}
-use Rattle.v6_client.specs.declared.setup.IaAsk.{IaAsk}
+use Rattle.v6_client.proofs.V6Items.SaidFits.{cons_all, take_all}
+use Rattle.v6_client.specs.V6Items.Reading.{cleared, ia_for, is_for as is_ia_for, is_read, is_readable, read_item, read_items, saids_of}
+use Rattle.v6_client.specs.V6Items.declared.asks.IaAsk.{IaAsk}
 
 -- ---- options
 

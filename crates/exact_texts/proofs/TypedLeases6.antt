@@ -18,15 +18,15 @@ use Rattle.lease6_text.specs.declared.lease.Item6.{Item6}
 use Rattle.lease6_text.specs.declared.lease.TheConstants.{ITEM_LIMIT}
 use Rattle.v6_client.specs.Answers.{fresh_of, granted, meeting_of, server_of}
 use Rattle.v6_client.specs.Clients.{ClientContent}
-use Rattle.v6_client.specs.Items.{asked_at, ia_with, ias_of, is_nonempty, pruned_ia, pruned_ias, staying, stays_in, thinned, without}
+use Rattle.v6_client.specs.V6Items.Items.{asked_at, ia_with, ias_of, is_nonempty, pruned_ia, pruned_ias, staying, stays_in, thinned, without}
 use Rattle.v6_client.specs.Moves.{kept_left, lease_with, thinned_lease}
-use Rattle.v6_client.specs.Reading.{ia_for, is_unbound, saids_of}
-use Rattle.v6_client.specs.Taking.{IaTaking, Meeting, carried, ia_granted, ias_granted, is_carried, item_from, place_of, placed, taken_by, taken_out, takes_item}
-use Rattle.v6_client.specs.declared.setup.IaAsk.{IaAsk}
-use Rattle.v6_client.specs.declared.states.Cause6.{Cause6}
-use Rattle.v6_client.specs.declared.states.Cause6.TheVariants.{Lapse}
-use Rattle.v6_client.specs.declared.states.Parting6.{Parting6}
-use Rattle.v6_client.specs.declared.states.Scope6.{Scope6}
+use Rattle.v6_client.specs.V6Items.Reading.{ia_for, is_unbound, saids_of}
+use Rattle.v6_client.specs.V6Items.Taking.{IaTaking, Meeting, carried, ia_granted, ias_granted, is_carried, item_from, place_of, placed, taken_by, taken_out, takes_item}
+use Rattle.v6_client.specs.V6Items.declared.asks.IaAsk.{IaAsk}
+use Rattle.v6_client.specs.V6Items.declared.scope.Cause6.{Cause6}
+use Rattle.v6_client.specs.V6Items.declared.scope.Cause6.TheVariants.{Lapse}
+use Rattle.v6_client.specs.V6Items.declared.scope.Parting6.{Parting6}
+use Rattle.v6_client.specs.V6Items.declared.scope.Scope6.{Scope6}
 use Rattle.exact_texts.proofs.Heard6.{HasServer, IsAddressed, find_all, saids_addressed}
 
 abbrev TypedItem : Item6 → Type 0

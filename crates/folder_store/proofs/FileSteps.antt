@@ -233,3 +233,6 @@ put_in path bytes failure old opened mid new made written end dir name named at 
     before_nothing (IsWritten bytes failure name) (old dir) (mid dir) (new dir)
     (ended bytes name failure (old dir) (mid dir) (written dir name [] (old dir) (made_empty path dir name named at (old dir) (opened dir) (made dir))))
     (quiet_so Closed (λ dir held files same. same) dir (mid dir) (new dir) (end dir))
+
+-- what is put into a file piece by piece
+pub ruleset pieces_put = (onto_begins, onto_goes_on, all_put, some_put)

@@ -201,3 +201,15 @@ too_many_names count old new before after many h = record {
   names = h.names;
   ends = inr (inr (refl, rw h.counted many, h.asked));
 }
+
+-- a file is read piece by piece
+pub ruleset pieces_read = (all_read, front_kept, piece_failed, piece_lost, too_many_pieces)
+
+-- a file is written piece by piece
+pub ruleset pieces_written = (writing_begins, writing_goes_on, all_written, some_written)
+
+-- a name of the folder comes
+pub ruleset names_come = (one_named, one_passed)
+
+-- the folder is listed name by name
+pub ruleset names_listed = (listing_begins, listing_goes_on, all_listed, name_lost, too_many_names)

@@ -267,3 +267,6 @@ module _ (start first second last : Option FolderHeld) (begins : first ≡ optio
       → ListsAsides {T = Unit {0}} (option_map told_of start) (option_map told_of last) before after (Err answer)
   unlisted_so before after answer e kept noted =
       rw e (unlisted_by start before after (kept_so (λ files. ListedAsides None) start first second last begins kept noted))
+
+-- what fails is not told
+pub ruleset not_told = (unasked, not_found, not_foretold)

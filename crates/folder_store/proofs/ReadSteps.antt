@@ -235,3 +235,9 @@ begun_list dir (Some start) begun found (it, made, is) rest =
 pub asides_found : (dir : List ℕ) (old begun : List ℕ → Option FolderHeld) (found : List (List ℕ)) → Tells (Listed dir None) old begun
     → AppendsRestOfNames begun [] found → FindsAsides (old dir) found
 asides_found dir old begun found h rest = begun_list dir (old dir) (begun dir) found (h dir) (λ names listed. rest dir names listed)
+
+-- what a further name says of the folder
+pub ruleset names_held = (name_keeps, name_listed, name_passed, names_end)
+
+-- what the listed names say of the folder
+pub ruleset lists_held = (list_begins, list_goes_on, list_ends, list_keeps)

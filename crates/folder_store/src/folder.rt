@@ -78,7 +78,7 @@ impl<D: Disk + Drop> FolderStore<D> {
     }
 }
 
-#[tactic(auto, using(system_calls::proofs::Causing::counted_cause, system_calls::proofs::Doing::answered_so, crate::proofs::FolderTold::unasked, crate::proofs::FolderTold::not_found, crate::proofs::FolderTold::not_foretold))]
+#[tactic(auto, using(system_calls::proofs::Causing::counted_cause, system_calls::proofs::Doing::answered_so, crate::proofs::FolderTold::not_told))]
 impl<D: Disk + Drop> Store for FolderStore<D> {
     ghost use Rattle.std.specs.Prelude.{None};
 

@@ -14,7 +14,7 @@ use system_calls::{Disk, reason};
 use world::DeviceAnswer;
 
 /// Keeps the next name of the folder where it is that of an aside, and says whether the listing goes on.
-#[tactic(auto, using(crate::proofs::FolderSteps::one_named, crate::proofs::FolderSteps::one_passed, crate::proofs::ReadSteps::name_keeps, crate::proofs::ReadSteps::name_listed, crate::proofs::ReadSteps::name_passed, crate::proofs::ReadSteps::names_end))]
+#[tactic(auto, using(crate::proofs::FolderSteps::names_come, crate::proofs::ReadSteps::names_held))]
 fn list_one<D: Disk>(disk: &mut D, names: &mut Vec<String>) -> Result<bool, DeviceAnswer>
     requires { All (λ name. IsFileName (string_bytes name)) names.old.items }
     ensures named { All (λ name. IsFileName (string_bytes name)) names.new.items }
@@ -41,7 +41,7 @@ fn list_one<D: Disk>(disk: &mut D, names: &mut Vec<String>) -> Result<bool, Devi
 }
 
 /// Keeps the names of asides among those that the folder goes on to list.
-#[tactic(auto, using(crate::proofs::FolderSteps::listing_begins, crate::proofs::FolderSteps::listing_goes_on, crate::proofs::FolderSteps::all_listed, crate::proofs::FolderSteps::name_lost, crate::proofs::FolderSteps::too_many_names, crate::proofs::ReadSteps::list_begins, crate::proofs::ReadSteps::list_goes_on, crate::proofs::ReadSteps::list_ends, crate::proofs::ReadSteps::list_keeps))]
+#[tactic(auto, using(crate::proofs::FolderSteps::names_listed, crate::proofs::ReadSteps::lists_held))]
 fn list_on<D: Disk>(disk: &mut D, names: &mut Vec<String>) -> Result<(), DeviceAnswer>
     requires { All (λ name. IsFileName (string_bytes name)) names.old.items }
     ensures named { All (λ name. IsFileName (string_bytes name)) names.new.items }

@@ -25,7 +25,7 @@ fn read_piece<D: Disk>(disk: &mut D, piece: &mut [u8; PIECE]) -> Result<usize, E
 }
 
 /// Appends what the open file holds; a front of it where that fails.
-#[tactic(auto, using(crate::proofs::FolderSteps::all_read, crate::proofs::FolderSteps::front_kept, crate::proofs::FolderSteps::piece_failed, crate::proofs::FolderSteps::piece_lost, crate::proofs::FolderSteps::too_many_pieces, crate::proofs::ReadSteps::read_keeps))]
+#[tactic(auto, using(crate::proofs::FolderSteps::pieces_read, crate::proofs::ReadSteps::read_keeps))]
 fn read_on<D: Disk>(disk: &mut D, into: &mut Vec<u8>) -> Result<(), DeviceAnswer>
     ensures asked { ReadsOn (D.calls disk.old) (D.calls disk.new) into.old.items into.new.items result }
     ensures held { KeepsFiles (D.held disk.old) (D.held disk.new) }

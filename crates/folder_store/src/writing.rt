@@ -31,7 +31,7 @@ fn behind(bytes: &[u8], n: usize) -> &[u8]
 }
 
 /// Writes all of these bytes to the open file.
-#[tactic(auto, using(crate::proofs::FolderSteps::writing_begins, crate::proofs::FolderSteps::writing_goes_on, crate::proofs::FolderSteps::all_written, crate::proofs::FolderSteps::some_written, crate::proofs::FileSteps::onto_begins, crate::proofs::FileSteps::onto_goes_on, crate::proofs::FileSteps::all_put, crate::proofs::FileSteps::some_put))]
+#[tactic(auto, using(crate::proofs::FolderSteps::pieces_written, crate::proofs::FileSteps::pieces_put))]
 fn write_on<D: Disk>(disk: &mut D, bytes: &[u8]) -> Result<(), ErrorKind>
     ensures asked { WritesOn bytes.now (D.calls disk.old) (D.calls disk.new) (failure_of result) }
     ensures held { WritesBehind bytes.now (failure_of result) (D.held disk.old) (D.held disk.new) }

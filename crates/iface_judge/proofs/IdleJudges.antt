@@ -11,7 +11,7 @@ use Rattle.v6_message.specs.Replies.{Content6}
 use Rattle.v4_client.specs.declared.states.Answer4.{Answer4}
 use Rattle.v4_client.specs.declared.states.Answer4.TheVariants.{Nothing}
 use Rattle.v4_client.specs.Messages.{Arrival}
-use Rattle.v6_client.specs.declared.setup.IaAsk.{IaAsk}
+use Rattle.v6_client.specs.V6Items.declared.asks.IaAsk.{IaAsk}
 use Rattle.evidence_words.specs.ClientModel.ClientSettings.{settings_of}
 use Rattle.evidence_words.specs.Entries.{Entry}
 use Rattle.evidence_words.specs.Inputs.{Site, carrier_after, has_carrier, index_at, is_stopped}

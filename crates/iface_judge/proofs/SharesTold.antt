@@ -13,7 +13,7 @@ use Rattle.settings.specs.declared.dhcp6_conf.ShareConf.{ShareConf}
 use Rattle.v6_options.specs.declared.ia.IaKind.{IaKind}
 use Rattle.v6_options.specs.declared.ia.IaKind.TheVariants.{Pd}
 use Rattle.v6_options.specs.declared.ia.ItemSaid.{ItemSaid}
-use Rattle.v6_client.specs.declared.setup.IaAsk.{IaAsk}
+use Rattle.v6_client.specs.V6Items.declared.asks.IaAsk.{IaAsk}
 use Rattle.v6_client_laws.specs.GivenItems.{IsHeldAs, MayBeHeld}
 use Rattle.v6_client_laws.proofs.Given.{met}
 use Rattle.evidence_words.specs.ClientModel.WantedRows.{first_address}

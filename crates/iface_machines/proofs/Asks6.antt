@@ -7,8 +7,8 @@ use Rattle.lease6_text.specs.Bounds.{FitsLease6, HasText6}
 use Rattle.lease6_text.specs.Leases.{Lease6Content}
 use Rattle.settings.specs.declared.dhcp6_conf.IaConf.{IaConf}
 use Rattle.settings.specs.Dhcp6Settings.{Dhcp6Settings, FitsDhcp6}
-use Rattle.v6_client.specs.declared.setup.IaAsk.{IaAsk}
-use Rattle.v6_client.specs.Bounds.{FitsAsks, ask_key}
+use Rattle.v6_items.specs.declared.asks.IaAsk.{IaAsk}
+use Rattle.v6_items.specs.Bounds.{FitsAsks, ask_key}
 use Rattle.client_model.specs.ClientSettings6.{ask_for}
 
 abbrev conf_for : IaAsk → IaConf

@@ -10,10 +10,10 @@ use Rattle.v6_retrans.specs.declared.parameters.TheConstants.{REQUEST, DECLINE}
 use Rattle.lease6_text.specs.Leases.{Lease6Content}
 use Rattle.v6_client.specs.declared.states.Carrier6.{Carrier6}
 use Rattle.v6_client.specs.declared.states.Carrier6.TheVariants.{Up, Down}
-use Rattle.v6_client.specs.declared.states.Cause6.TheVariants.{Lapse, Duplicate}
-use Rattle.v6_client.specs.declared.states.Dates6.{Dates6}
+use Rattle.v6_items.specs.declared.scope.Cause6.TheVariants.{Lapse, Duplicate}
+use Rattle.v6_items.specs.declared.scope.Dates6.{Dates6}
 use Rattle.v6_client.specs.declared.states.News6.{News6}
-use Rattle.v6_client.specs.declared.states.Parting6.{Parting6}
+use Rattle.v6_items.specs.declared.scope.Parting6.{Parting6}
 use Rattle.v6_client.specs.declared.states.State6.{State6}
 use Rattle.v6_client.specs.declared.states.State6.TheVariants.{Off, Waiting, Soliciting, Requesting, Bound, Renewing, Rebinding, Restarting, Declining}
 use Rattle.v6_client.specs.declared.states.Step6.{Step6}

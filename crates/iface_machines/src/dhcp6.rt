@@ -23,10 +23,11 @@ use settings::{IaConf, IfConf, Managed};
 use std::alloc::{AllocError, Global};
 use v4_client::Tell;
 use v6_client::{
-    Carrier6, Client6, IaAsk, Out6, Set6, Tell6, carrier6, client6_new, duplicate6, heard6,
-    rebind6, release6,
+    Carrier6, Client6, Out6, Set6, Tell6, carrier6, client6_new, duplicate6, heard6, rebind6,
+    release6,
 };
 use v6_frames::Heard6;
+use v6_items::IaAsk;
 use v6_options::Duid;
 
 /// DHCPv6 runs where an IA is asked for, unless it is forbidden.

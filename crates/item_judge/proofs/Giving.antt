@@ -17,7 +17,7 @@ use Rattle.v6_options.specs.Layout.{address_fields_len}
 use Rattle.v6_options.specs.OptionArea.{Instance, instances_in}
 use Rattle.v6_options.specs.Statuses.{status_in, success}
 use Rattle.v6_message.specs.Replies.{Content6}
-use Rattle.v6_client.specs.declared.setup.IaAsk.{IaAsk}
+use Rattle.v6_items.specs.declared.asks.IaAsk.{IaAsk}
 use Rattle.lease6_evidence.proofs.V6ClientLaws.FirstItems.{none_in}
 use Rattle.lease6_evidence.proofs.V6ClientLaws.Given.{met}
 use Rattle.lease6_evidence.specs.V6ClientLaws.GivenItems.{IsHeldAs}

@@ -8,7 +8,7 @@ use Rattle.v6_message.specs.Replies.{Content6}
 use Rattle.v6_message.specs.Requests.{SaidContent}
 use Rattle.v6_frames.specs.Spelled.{Sent6}
 use Rattle.v6_client.specs.Answers.{has_bytes, is_duid}
-use Rattle.v6_client.specs.Reading.{serves}
+use Rattle.v6_items.specs.Reading.{serves}
 use Rattle.evidence_words.specs.Entries.{Entry}
 use Rattle.evidence_words.specs.Inputs.{Site}
 use Rattle.lease6_evidence.specs.Exchanges6.{Exchange, Numbered6, Seen6, asks, asks_reply, closes6, is_solicit, joined6, messages6_at, opens6, seen6_in, show6, shows6}

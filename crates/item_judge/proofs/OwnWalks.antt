@@ -5,7 +5,7 @@ use Rattle.settings.specs.declared.dhcp6_conf.IaConf.{IaConf}
 use Rattle.v6_options.specs.Ias.{IaContent}
 use Rattle.v6_message.specs.ReadBack.{asked_in}
 use Rattle.v6_message.specs.Requests.{AskedContent}
-use Rattle.v6_client.specs.declared.setup.IaAsk.{IaAsk}
+use Rattle.v6_items.specs.declared.asks.IaAsk.{IaAsk}
 use Rattle.evidence_words.specs.ClientModel.ClientSettings6.{ask_for}
 use Rattle.evidence_words.specs.Inputs.{Site}
 use Rattle.lease6_evidence.specs.OwnMessages6 as own

@@ -7,7 +7,7 @@ use Rattle.net_types.specs.declared.address.Net.TheVariants.{V4, V6}
 use Rattle.net_types.specs.declared.address.Net6.{Net6}
 use Rattle.v6_options.specs.declared.ia.IaKind.{IaKind}
 use Rattle.v6_options.specs.declared.ia.IaKind.TheVariants.{Na, Pd}
-use Rattle.v6_client.specs.declared.setup.IaAsk.{IaAsk}
+use Rattle.v6_items.specs.declared.asks.IaAsk.{IaAsk}
 use Rattle.evidence_words.specs.Entries.{Entry, Offer, offers_on}
 use Rattle.evidence_words.specs.Inputs.{Site, has_carrier, index_at}
 use Rattle.lease6_evidence.specs.Exchanges6.{message6_of}

@@ -1,8 +1,8 @@
 -- A step of the walk over the IAs that an interface gives back or declines.
 use Rattle.std.specs.Prelude.{Bool, ◌&&◌}
 use Rattle.v6_message.specs.Requests.{AskedContent}
-use Rattle.v6_client.specs.declared.setup.IaAsk.{IaAsk}
-use Rattle.v6_client.specs.Items.{is_nonempty}
+use Rattle.v6_items.specs.declared.asks.IaAsk.{IaAsk}
+use Rattle.v6_items.specs.Items.{is_nonempty}
 use Rattle.lease6_evidence.specs.OwnMessages6.{is_ia_of}
 
 -- the IA is the asked one and has items

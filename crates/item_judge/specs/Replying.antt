@@ -1,7 +1,7 @@
 -- Whether a good Reply comes in the exchange that is open (RFC 8415, section 18.2.10).
 use Rattle.std.specs.Prelude.{Bool, false, ◌&&◌, Option, Some, None}
 use Rattle.v6_message.specs.Replies.{Content6}
-use Rattle.v6_client.specs.Reading.{serves}
+use Rattle.v6_items.specs.Reading.{serves}
 use Rattle.evidence_words.specs.Inputs.{Site}
 use Rattle.lease6_evidence.specs.Exchanges6.{Numbered6}
 use Rattle.lease6_evidence.specs.Replies6.{answers, asks_at}

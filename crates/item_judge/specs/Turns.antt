@@ -7,7 +7,7 @@ use Rattle.v6_options.specs.declared.ia.IaKind.{IaKind}
 use Rattle.v6_options.specs.declared.ia.IaKind.TheVariants.{Na, Pd}
 use Rattle.world.specs.declared.wakes.Event.{Event}
 use Rattle.world.specs.declared.wakes.Event.TheVariants.{Duplicate}
-use Rattle.v6_client.specs.declared.setup.IaAsk.{IaAsk}
+use Rattle.v6_items.specs.declared.asks.IaAsk.{IaAsk}
 use Rattle.lease6_judge.specs.Terms.{Term, if_left}
 use Rattle.item_judge.specs.declared.table.ItemTable.{ItemTable}
 use Rattle.item_judge.specs.declared.table.Turn.{Turn}

@@ -4,7 +4,7 @@ use Rattle.std.specs.List.{filter_map}
 use Rattle.net_types.specs.declared.address.Net6.{Net6}
 use Rattle.v6_options.specs.declared.ia.ItemSaid.{ItemSaid}
 use Rattle.v6_options.specs.Ias.{IaContent}
-use Rattle.v6_client.specs.Reading.{read_item}
+use Rattle.v6_items.specs.Reading.{read_item}
 use Rattle.lease6_judge.specs.Terms.{Term, gives, longer, not_held, term_of}
 
 -- what is revised is let go

@@ -3,7 +3,7 @@
 ghost use Rattle.std.specs.Prelude.{◌≡◌, IfOk};
 ghost use Rattle.std.specs.Option.{option_map};
 ghost use Rattle.v6_message.specs.Shown.{message_shown};
-ghost use Rattle.v6_client.specs.Reading.{serves};
+ghost use Rattle.v6_items.specs.Reading.{serves};
 ghost use Rattle.evidence_words.specs.Inputs as inputs;
 ghost use Rattle.audit_words.specs.Shown.{entry_shown, site_shown};
 ghost use Rattle.lease6_evidence.specs.Replies6.{asks_at, message6_at};
@@ -17,8 +17,9 @@ use audit_words::{Entry, Site};
 use iface_machines::asks_of;
 use net_types::{Ip6, NoMemory};
 use std::alloc::Global;
-use v6_client::{has_bytes, serves};
+use v6_client::has_bytes;
 use v6_frames::heard6_of;
+use v6_items::serves;
 use v6_message::Msg6;
 use world::Event;
 

@@ -24,7 +24,7 @@ use audit_words::{Entry, Offer, Site};
 use net_types::{Net, Net6, NoMemory};
 use settings::IaConf;
 use std::alloc::Global;
-use v6_client::IaAsk;
+use v6_items::IaAsk;
 use v6_options::IaKind;
 
 /// What is kept of an interface: whether it has carrier, the exchange that is open, and the items that the Replies to

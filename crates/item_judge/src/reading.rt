@@ -4,14 +4,14 @@ ghost use Rattle.std.specs.Prelude.{◌≡◌, ◌<◌, ◌^◌, OnOk};
 ghost use Rattle.net_types.specs.declared.address.Net6.{Net6};
 ghost use Rattle.v6_options.specs.IaViews.{ia_shown, items_left};
 ghost use Rattle.v6_options.specs.Ias.{ias_in};
-ghost use Rattle.v6_client.specs.Reading as reading;
+ghost use Rattle.v6_items.specs.Reading as reading;
 ghost use Rattle.lease6_judge.specs.HeardTerms.{all_items, items_if_of};
 ghost use Rattle.item_judge.specs.Tables.{term_at};
 ghost use Rattle.item_judge.specs.Walks.{front_all, with_read, with_said, with_saids};
 
 use crate::terms::{Terms, term_of};
 use net_types::NoMemory;
-use v6_client::{IaAsk, is_for, is_readable, read_item};
+use v6_items::{IaAsk, is_for, is_readable, read_item};
 use v6_options::{IaKind, IaView, ItemSaid, ia_views};
 
 /// Holds an item for what its valid lifetime is, unless that is 0.

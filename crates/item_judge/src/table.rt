@@ -17,7 +17,7 @@ use crate::reading::hold_all;
 use crate::terms::Terms;
 use net_types::{Ip6, Net6, NoMemory};
 use std::alloc::Global;
-use v6_client::{IaAsk, ia_for, is_unbound, saids_of};
+use v6_items::{IaAsk, ia_for, is_unbound, saids_of};
 use v6_message::Msg6;
 use v6_options::{IaKind, ItemSaid};
 

@@ -9,7 +9,7 @@ use Rattle.v6_message.specs.declared.kind.Kind6.TheVariants as kind
 use Rattle.v6_message.specs.Replies.{Content6}
 use Rattle.v6_frames.specs.Spelled.{Sent6}
 use Rattle.v6_client.specs.declared.times.TheConstants.{RESTART_TIME}
-use Rattle.v6_client.specs.Reading.{serves}
+use Rattle.v6_items.specs.Reading.{serves}
 use Rattle.lease6_evidence.proofs.V6ClientLaws.Given.{messages_serve}
 use Rattle.audit_words.specs.EvidenceWords.Entries.{Entry}
 use Rattle.audit_words.specs.EvidenceWords.Inputs.{GoesOn, Site, StaysOn, carrier_after, has_carrier, index_at}

@@ -12,9 +12,9 @@ use Rattle.v6_options.specs.declared.ia.IaKind.TheVariants.{Na, Pd}
 use Rattle.lease6_text.specs.declared.lease.Item6.{Item6}
 use Rattle.lease6_text.specs.Leases.{IaLeaseContent, Lease6Content}
 use Rattle.lease6_text.specs.LineParts.{is_ia, is_same_kind}
-use Rattle.v6_client.specs.declared.setup.IaAsk.{IaAsk}
+use Rattle.v6_items.specs.declared.asks.IaAsk.{IaAsk}
 use Rattle.v6_client.specs.declared.times.TheConstants.{RESTART_TIME}
-use Rattle.v6_client.specs.Items.{is_live}
+use Rattle.v6_items.specs.Items.{is_live}
 use Rattle.lease6_evidence.proofs.V6ClientLaws.Given.{met}
 use Rattle.audit_words.specs.EvidenceWords.Entries.{Entry}
 use Rattle.machine.specs.Since.{Always}

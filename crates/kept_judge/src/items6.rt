@@ -4,7 +4,7 @@ ghost use Rattle.std.specs.Prelude.{◌≡◌, List, option_map};
 ghost use Rattle.std.specs.List.{list_any};
 ghost use Rattle.audit_words.specs.EvidenceWords.Entries as told;
 ghost use Rattle.lease6_text.specs.Leases.{ias_content, lease6_content};
-ghost use Rattle.lease6_text.specs.LineParts.{is_ia, is_same_kind};
+ghost use Rattle.lease6_text.specs.LineParts.{is_ia};
 ghost use Rattle.kept_judge.specs.Staying.{is_same_net};
 ghost use Rattle.audit_words.specs.Shown.{site_shown};
 ghost use Rattle.kept_judge.specs.Asking6.{Tells6, gives6, gives_address6, has_live_item, is_kept6, is_kept_address6, is_live_item, is_na};
@@ -14,19 +14,8 @@ use audit_words::Site;
 use lease6_text::{IaLease, Item6, Lease6};
 use machine::has_come;
 use net_types::{Net, Net6};
-use v6_client::IaAsk;
+use v6_items::{IaAsk, is_same_kind};
 use v6_options::IaKind;
-
-fn is_same_kind(one: IaKind, other: IaKind) -> bool
-    ensures { result ≡ is_same_kind one other }
-{
-    match (one, other) {
-        (IaKind::Na, IaKind::Na) => true,
-        (IaKind::Pd, IaKind::Pd) => true,
-        (IaKind::Na, IaKind::Pd) => false,
-        (IaKind::Pd, IaKind::Na) => false,
-    }
-}
 
 fn is_same_net(one: Net6, other: Net6) -> bool
     ensures { result ≡ is_same_net one other }

@@ -45,3 +45,6 @@ unowned ask frame sent h s o = rw (h, s, o) refl
 pub passed : (ask : AskContent) (frame : List ℕ) (sent : Sent4) → ask_fits ask ≡ true → bytes_eq frame (frame_of ask sent) ≡ true → is_of_a_client sent ≡ true
     → Some sent ≡ if_said ask frame sent
 passed ask frame sent h s o = rw (h, s, o) refl
+
+-- what a frame that was tested is
+pub ruleset frame_tests = (unfit, unspelled, unowned, passed, fits_is)

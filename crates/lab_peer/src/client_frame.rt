@@ -29,7 +29,7 @@ pub fn client_sent(alloc: Global, frame: &[u8]) -> Result<Option<Sent4>, NoMemor
 }
 
 /// The message, where its frame is this one and some client may say it.
-#[tactic(auto, using(crate::proofs::Tests::unfit, crate::proofs::Tests::unspelled, crate::proofs::Tests::unowned, crate::proofs::Tests::passed, crate::proofs::Tests::fits_is))]
+#[tactic(auto, using(crate::proofs::Tests::frame_tests))]
 fn if_said(
     alloc: Global,
     frame: &[u8],

@@ -17,13 +17,13 @@ use Rattle.lease6_text.specs.Bounds.{FitsIas, ia_key}
 use Rattle.lease6_text.specs.Leases.{IaLeaseContent, Lease6Content}
 use Rattle.lease6_text.specs.LineParts.{is_ia, is_same_kind}
 use Rattle.lease6_text.proofs.Apart.{Apart, apart_from}
-use Rattle.v6_client.specs.declared.setup.IaAsk.{IaAsk}
-use Rattle.v6_client.specs.declared.states.Cause6.{Cause6}
-use Rattle.v6_client.specs.declared.states.Scope6.TheVariants as scope
-use Rattle.v6_client.specs.declared.times.TheConstants.{FOREVER, SECOND}
-use Rattle.v6_client.specs.Items.{goes_of, ia_with, is_in, is_live, items_at, stays_in, staying, thinned, without}
-use Rattle.v6_client.specs.Times.{moment_after}
-use Rattle.v6_client.proofs.TakenFits.{kind_is}
+use Rattle.v6_client.specs.V6Items.declared.asks.IaAsk.{IaAsk}
+use Rattle.v6_client.specs.V6Items.declared.scope.Cause6.{Cause6}
+use Rattle.v6_client.specs.V6Items.declared.scope.Scope6.TheVariants as scope
+use Rattle.v6_client.specs.V6Items.declared.times.TheConstants.{FOREVER, SECOND}
+use Rattle.v6_client.specs.V6Items.Items.{goes_of, ia_with, is_in, is_live, items_at, stays_in, staying, thinned, without}
+use Rattle.v6_client.specs.V6Items.Times.{moment_after}
+use Rattle.v6_client.proofs.V6Items.TakenFits.{kind_is}
 use Rattle.lease_evidence.specs.EvidenceWords.Entries.{Entry}
 use Rattle.lease_evidence.specs.EvidenceWords.Inputs.{Site}
 use Rattle.lease6_evidence.specs.Exchanges6.{Numbered6}

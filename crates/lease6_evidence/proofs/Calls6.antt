@@ -10,14 +10,14 @@ use Rattle.v6_message.specs.Replies.{Content6}
 use Rattle.v6_retrans.specs.declared.parameters.TheConstants.{DECLINE}
 use Rattle.lease6_text.specs.Leases.{IaLeaseContent, Lease6Content}
 use Rattle.v6_client.specs.declared.exchange.Exchange6.{Exchange6}
-use Rattle.v6_client.specs.declared.setup.IaAsk.{IaAsk}
+use Rattle.v6_client.specs.V6Items.declared.asks.IaAsk.{IaAsk}
 use Rattle.v6_client.specs.declared.states.Carrier6.{Carrier6}
 use Rattle.v6_client.specs.declared.states.Carrier6.TheVariants.{Up, Down}
-use Rattle.v6_client.specs.declared.states.Cause6.{Cause6}
-use Rattle.v6_client.specs.declared.states.Cause6.TheVariants.{Lapse, Duplicate}
-use Rattle.v6_client.specs.declared.states.Dates6.{Dates6}
+use Rattle.v6_client.specs.V6Items.declared.scope.Cause6.{Cause6}
+use Rattle.v6_client.specs.V6Items.declared.scope.Cause6.TheVariants.{Lapse, Duplicate}
+use Rattle.v6_client.specs.V6Items.declared.scope.Dates6.{Dates6}
 use Rattle.v6_client.specs.declared.states.News6.TheVariants as news
-use Rattle.v6_client.specs.declared.states.Parting6.{Parting6}
+use Rattle.v6_client.specs.V6Items.declared.scope.Parting6.{Parting6}
 use Rattle.v6_client.specs.declared.states.State6.{State6}
 use Rattle.v6_client.specs.declared.states.State6.TheVariants.{Off, Waiting, Soliciting, Requesting, Bound, Renewing, Rebinding, Restarting, Declining}
 use Rattle.v6_client.specs.declared.states.Tell6.{Tell6}
@@ -28,7 +28,7 @@ use Rattle.v6_client.specs.Calls.{dates_in, due_of, parting_begun, stands_at}
 use Rattle.v6_client.specs.Clients.{ClientContent, PleaContent, holds, is_at_end, is_restarting}
 use Rattle.v6_client.specs.Exchanges.{begun, rand_in}
 use Rattle.v6_client.specs.Inputs.{begin_row, duplicate_row}
-use Rattle.v6_client.specs.Items.{ias_of}
+use Rattle.v6_client.specs.V6Items.Items.{ias_of}
 use Rattle.v6_client.specs.Moves.{given_up, kept_left, lapsed, parting_at, plea_after, plea_lapsed, thinned_lease}
 use Rattle.v6_client.specs.Runs.{Turned6, answered, carrier_turned, contested_turned, hears_turned, rebind_turned, release_turned, rested, stepped, tick_turned}
 use Rattle.v6_client.specs.Saying.{lease_server, plea_server}

@@ -13,8 +13,8 @@ use Rattle.v6_options.specs.Ias.{IaContent, ias_in}
 use Rattle.v6_options.specs.Statuses.{success}
 use Rattle.v6_message.specs.Replies.{Content6}
 use Rattle.v6_frames.specs.Heard.{HeardMessage6}
-use Rattle.v6_client.specs.declared.setup.IaAsk.{IaAsk}
-use Rattle.v6_client.specs.Reading.{are_ordered, front_items, is_unbound, no_binding, read_items, saids_of}
+use Rattle.v6_client.specs.V6Items.declared.asks.IaAsk.{IaAsk}
+use Rattle.v6_client.specs.V6Items.Reading.{are_ordered, front_items, is_unbound, no_binding, read_items, saids_of}
 use Rattle.v6_client_laws.proofs.Given.{bindings_are_known, items_are_given}
 use Rattle.world.specs.declared.wakes.Event.{Event}
 use Rattle.world.specs.declared.wakes.Event.TheVariants.{Frame, Carrier, Duplicate, Release, Rebind, Stop, Quiet, End}

@@ -10,9 +10,9 @@ use Rattle.v6_client.specs.Answers as answers
 use Rattle.v6_client.specs.Answers.{counts, is_taken}
 use Rattle.lease6_text.specs.Leases.{Lease6Content}
 use Rattle.v6_client.specs.Clients.{ClientContent, PleaContent}
-use Rattle.v6_client.specs.Items.{pruned_ias}
+use Rattle.v6_client.specs.V6Items.Items.{pruned_ias}
 use Rattle.v6_client.specs.Moves.{lease_with}
-use Rattle.v6_client.specs.declared.setup.IaAsk.{IaAsk}
+use Rattle.v6_client.specs.V6Items.declared.asks.IaAsk.{IaAsk}
 use Rattle.v6_client.specs.Saying.{lease_server, plea_server}
 use Rattle.lease_evidence.specs.ClientModel.ClientSettings6.{settings6_of}
 use Rattle.lease_evidence.specs.EvidenceWords.Entries.{Entry}

@@ -12,17 +12,17 @@ use Rattle.v6_retrans.specs.declared.parameters.TheConstants.{REQUEST, DECLINE}
 use Rattle.v4_frames.specs.InRange.{FitsMac}
 use Rattle.lease6_text.specs.Leases.{Lease6Content}
 use Rattle.v6_client.specs.declared.exchange.Exchange6.{Exchange6}
-use Rattle.v6_client.specs.declared.setup.IaAsk.{IaAsk}
+use Rattle.v6_client.specs.V6Items.declared.asks.IaAsk.{IaAsk}
 use Rattle.v6_client.specs.declared.states.Answer6.{Answer6}
 use Rattle.v6_client.specs.declared.states.Answer6.TheVariants as answer
-use Rattle.v6_client.specs.declared.states.Dates6.{Dates6}
+use Rattle.v6_client.specs.V6Items.declared.scope.Dates6.{Dates6}
 use Rattle.v6_client.specs.declared.states.Keep6.{Keep6}
 use Rattle.v6_client.specs.declared.states.Keep6.TheVariants.{Stays, Clears, Takes}
 use Rattle.v6_client.specs.declared.states.News6.{News6}
 use Rattle.v6_client.specs.declared.states.News6.TheVariants as news
-use Rattle.v6_client.specs.declared.states.Parting6.{Parting6}
+use Rattle.v6_client.specs.V6Items.declared.scope.Parting6.{Parting6}
 use Rattle.v6_client.specs.declared.states.Say6.{Say6}
-use Rattle.v6_client.specs.declared.states.Scope6.{Scope6}
+use Rattle.v6_client.specs.V6Items.declared.scope.Scope6.{Scope6}
 use Rattle.v6_client.specs.declared.states.State6.{State6}
 use Rattle.v6_client.specs.declared.states.State6.TheVariants.{Off, Waiting, Soliciting, Requesting, Bound, Renewing, Rebinding, Restarting, Declining}
 use Rattle.v6_client.specs.declared.states.Step6.{Step6}

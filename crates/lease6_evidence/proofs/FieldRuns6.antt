@@ -21,14 +21,14 @@ use Rattle.lease6_text.specs.declared.lease.Item6.{Item6}
 use Rattle.lease6_text.specs.Bounds.{FitsIa, FitsLease6}
 use Rattle.lease6_text.specs.Leases.{IaLeaseContent, Lease6Content}
 use Rattle.lease6_text.proofs.Apart.{Apart, apart_from}
-use Rattle.v6_client.specs.declared.setup.IaAsk.{IaAsk}
+use Rattle.v6_client.specs.V6Items.declared.asks.IaAsk.{IaAsk}
 use Rattle.v6_client.specs.declared.states.Answer6.{Answer6}
 use Rattle.v6_client.specs.declared.states.Carrier6.{Carrier6}
 use Rattle.v6_client.specs.declared.states.Carrier6.TheVariants.{Up, Down}
-use Rattle.v6_client.specs.declared.states.Cause6.{Cause6}
-use Rattle.v6_client.specs.declared.states.Cause6.TheVariants.{Lapse, Duplicate}
-use Rattle.v6_client.specs.declared.states.Parting6.{Parting6}
-use Rattle.v6_client.specs.declared.states.Scope6.{Scope6}
+use Rattle.v6_client.specs.V6Items.declared.scope.Cause6.{Cause6}
+use Rattle.v6_client.specs.V6Items.declared.scope.Cause6.TheVariants.{Lapse, Duplicate}
+use Rattle.v6_client.specs.V6Items.declared.scope.Parting6.{Parting6}
+use Rattle.v6_client.specs.V6Items.declared.scope.Scope6.{Scope6}
 use Rattle.v6_client.specs.declared.states.State6.{State6}
 use Rattle.v6_client.specs.declared.states.Step6.{Step6}
 use Rattle.v6_client.specs.declared.states.Tell6.{Tell6}
@@ -38,14 +38,14 @@ use Rattle.v6_client.specs.Calls.{answer_in, dates_in, due_of, fresh_in, parting
 use Rattle.v6_client.specs.Clients.{ClientContent, PleaContent, holds, is_at_end, is_declining, is_restarting, met_scope}
 use Rattle.v6_client.specs.Hearing.{heard_row, is_kept_offer}
 use Rattle.v6_client.specs.Inputs.{begin_row, duplicate_row}
-use Rattle.v6_client.specs.Items.{asked_at, ia_with, ias_of, is_nonempty, pruned_ia, pruned_ias, stays_in, staying, without}
+use Rattle.v6_client.specs.V6Items.Items.{asked_at, ia_with, ias_of, is_nonempty, pruned_ia, pruned_ias, stays_in, staying, without}
 use Rattle.v6_client.specs.Moves.{kept_left, parting_at, plea_by, plea_lapsed, plea_with, thinned_lease}
-use Rattle.v6_client.specs.Reading.{ia_for, is_unbound, saids_of}
+use Rattle.v6_client.specs.V6Items.Reading.{ia_for, is_unbound, saids_of}
 use Rattle.v6_client.specs.Saying.{lease_server, plea_server}
 use Rattle.v6_client.specs.Runs.{Turned6, answered, carrier_turned, contested_turned, hears_turned, rebind_turned, release_turned, rested, stepped, tick_turned}
-use Rattle.v6_client.specs.Taking.{carried, ia_granted, ias_granted, is_carried, item_from, taken_by}
+use Rattle.v6_client.specs.V6Items.Taking.{carried, ia_granted, ias_granted, is_carried, item_from, taken_by}
 use Rattle.v6_client.specs.Ticks.{tick_row}
-use Rattle.v6_client.proofs.TakenFits.{had_fit}
+use Rattle.v6_client.proofs.V6Items.TakenFits.{had_fit}
 use Rattle.lease_evidence.specs.ClientModel.ClientSettings6.{site6_of}
 use Rattle.lease_evidence.specs.EvidenceWords.Inputs.{Site}
 use Rattle.lease6_evidence.specs.Replies6.{asks_at}

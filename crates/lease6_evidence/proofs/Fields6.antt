@@ -24,19 +24,19 @@ use Rattle.lease6_text.specs.Leases.{IaLeaseContent, Lease6Content}
 use Rattle.lease6_text.specs.LineParts.{has_net, is_ia, is_same_kind}
 use Rattle.settings.specs.declared.dhcp6_conf.IaConf.{IaConf}
 use Rattle.settings.specs.Dhcp6Settings.{FitsIaConf}
-use Rattle.v6_client.specs.declared.setup.IaAsk.{IaAsk}
-use Rattle.v6_client.specs.declared.states.Scope6.{Scope6}
-use Rattle.v6_client.specs.declared.states.Scope6.TheVariants as scope
-use Rattle.v6_client.specs.Asking.{asked_with, hinted, ia_asked, ia_declined, ia_lapsed, ia_offered, ia_released, ia_solicited, ias_asked, ias_lapsed, ias_offered, is_over_in, named_with, nets_gone, nets_in, nets_lapsed, nets_said}
-use Rattle.v6_client.specs.Bounds.{IsTimed}
+use Rattle.v6_client.specs.V6Items.declared.asks.IaAsk.{IaAsk}
+use Rattle.v6_client.specs.V6Items.declared.scope.Scope6.{Scope6}
+use Rattle.v6_client.specs.V6Items.declared.scope.Scope6.TheVariants as scope
+use Rattle.v6_client.specs.V6Items.Asking.{asked_with, hinted, ia_asked, ia_declined, ia_lapsed, ia_offered, ia_released, ia_solicited, ias_asked, ias_lapsed, ias_offered, is_over_in, named_with, nets_gone, nets_in, nets_lapsed, nets_said}
+use Rattle.v6_client.specs.V6Items.Bounds.{IsTimed}
 use Rattle.v6_client.specs.Clients.{PleaContent}
-use Rattle.v6_client.specs.Items.{asked_at, ias_of, is_in, is_nonempty, items_at}
-use Rattle.v6_client.specs.Reading.{ia_for, is_readable, read_items, saids_of}
+use Rattle.v6_client.specs.V6Items.Items.{asked_at, ias_of, is_in, is_nonempty, items_at}
+use Rattle.v6_client.specs.V6Items.Reading.{ia_for, is_readable, read_items, saids_of}
 use Rattle.v6_client.specs.Saying.{ias_said, lease_server, plea_ias, plea_server, server_said}
-use Rattle.v6_client.specs.Taking.{item_from}
-use Rattle.v6_client.proofs.FitsLists.{fewer}
-use Rattle.v6_client.proofs.SaidFits.{saids_fit}
-use Rattle.v6_client.proofs.TakenFits.{kind_is}
+use Rattle.v6_client.specs.V6Items.Taking.{item_from}
+use Rattle.v6_client.proofs.V6Items.FitsLists.{fewer}
+use Rattle.v6_client.proofs.V6Items.SaidFits.{saids_fit}
+use Rattle.v6_client.proofs.V6Items.TakenFits.{kind_is}
 use Rattle.lease_evidence.specs.ClientModel.ClientSettings6.{ask_for}
 use Rattle.lease6_evidence.proofs.Basis6.{filter_all}
 use Rattle.lease6_evidence.proofs.Bytes6.{IsTyped, options_typed, take_all}

@@ -9,7 +9,7 @@ use Rattle.v6_client.specs.declared.states.State6.{State6}
 use Rattle.v6_client.specs.declared.states.State6.TheVariants.{Off, Waiting, Soliciting, Requesting, Bound, Renewing, Rebinding, Restarting, Declining}
 use Rattle.v6_client.specs.Answers.{awaited, chosen, takes_replies}
 use Rattle.v6_client.specs.Clients.{ClientContent, PleaContent, holds}
-use Rattle.v6_client.specs.Reading.{serves}
+use Rattle.v6_client.specs.V6Items.Reading.{serves}
 use Rattle.v6_client.specs.Saying.{lease_server, plea_server}
 use Rattle.v6_client_laws.proofs.Given.{messages_serve}
 use Rattle.lease_evidence.specs.EvidenceWords.Entries.{Entry}

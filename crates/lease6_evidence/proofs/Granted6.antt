@@ -17,15 +17,15 @@ use Rattle.lease6_text.specs.Bounds.{FitsIa}
 use Rattle.lease6_text.specs.Leases.{IaLeaseContent}
 use Rattle.lease6_text.specs.LineParts.{is_ia, is_of_net, is_same_kind}
 use Rattle.lease6_text.proofs.Apart.{Apart, apart_from}
-use Rattle.v6_client.specs.declared.setup.IaAsk.{IaAsk}
-use Rattle.v6_client.specs.declared.states.Scope6.{Scope6}
-use Rattle.v6_client.specs.declared.states.Scope6.TheVariants as scope
-use Rattle.v6_client.specs.declared.times.TheConstants.{FOREVER, SECOND}
-use Rattle.v6_client.specs.Items.{asked_at, ia_with, ias_of, is_live, items_at}
-use Rattle.v6_client.specs.Reading.{ia_for, is_unbound}
-use Rattle.v6_client.specs.Taking.{Meeting, carried, ia_granted, ias_granted, is_carried, is_named, item_from, taken_by}
-use Rattle.v6_client.specs.Times.{moment_after}
-use Rattle.v6_client.proofs.TakenFits.{had_fit, kind_is}
+use Rattle.v6_client.specs.V6Items.declared.asks.IaAsk.{IaAsk}
+use Rattle.v6_client.specs.V6Items.declared.scope.Scope6.{Scope6}
+use Rattle.v6_client.specs.V6Items.declared.scope.Scope6.TheVariants as scope
+use Rattle.v6_client.specs.V6Items.declared.times.TheConstants.{FOREVER, SECOND}
+use Rattle.v6_client.specs.V6Items.Items.{asked_at, ia_with, ias_of, is_live, items_at}
+use Rattle.v6_client.specs.V6Items.Reading.{ia_for, is_unbound}
+use Rattle.v6_client.specs.V6Items.Taking.{Meeting, carried, ia_granted, ias_granted, is_carried, is_named, item_from, taken_by}
+use Rattle.v6_client.specs.V6Items.Times.{moment_after}
+use Rattle.v6_client.proofs.V6Items.TakenFits.{had_fit, kind_is}
 use Rattle.v6_client_laws.proofs.Given.{bindings_are_known, items_are_given}
 use Rattle.lease_evidence.specs.EvidenceWords.Entries.{Entry}
 use Rattle.lease_evidence.specs.EvidenceWords.Inputs.{Site}

@@ -20,11 +20,11 @@ use Rattle.v6_client.specs.Answers.{counts, granted, is_taken, learnt, meeting_o
 use Rattle.v6_client.specs.Calls.{fresh_in}
 use Rattle.v6_client.specs.Clients.{ClientContent, PleaContent, holds, met_scope}
 use Rattle.v6_client.specs.Hearing.{heard_row, is_better, is_taken_at_once, solicited}
-use Rattle.v6_client.specs.Items.{ias_of, is_nonempty}
-use Rattle.v6_client.specs.Reading.{serves}
+use Rattle.v6_client.specs.V6Items.Items.{ias_of, is_nonempty}
+use Rattle.v6_client.specs.V6Items.Reading.{serves}
 use Rattle.v6_client.specs.Runs.{Turned6, answered, hears_turned, rested, stepped}
 use Rattle.v6_client.specs.Saying.{lease_server, plea_server}
-use Rattle.v6_client.specs.Taking.{ias_granted}
+use Rattle.v6_client.specs.V6Items.Taking.{ias_granted}
 use Rattle.lease_evidence.specs.ClientModel.ClientSettings6.{site6_of}
 use Rattle.lease_evidence.specs.EvidenceWords.Entries.{Entry}
 use Rattle.lease_evidence.specs.EvidenceWords.Inputs.{Site}

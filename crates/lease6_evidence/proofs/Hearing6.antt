@@ -20,7 +20,7 @@ use Rattle.v6_client.specs.Calls.{fresh_in}
 use Rattle.v6_client.specs.Clients.{ClientContent, PleaContent}
 use Rattle.v6_client.specs.Hearing.{heard_row, is_better, is_kept_offer, is_taken_at_once, solicited}
 use Rattle.v6_client.specs.Moves.{kept_after, plea_after, told}
-use Rattle.v6_client.specs.Reading.{serves}
+use Rattle.v6_client.specs.V6Items.Reading.{serves}
 use Rattle.v6_client.specs.Runs.{Turned6, answered, hears_turned, rested, stepped}
 use Rattle.v6_client.specs.Saying.{lease_server, plea_server}
 use Rattle.v6_client.specs.Steps.{rests}

@@ -17,13 +17,13 @@ use Rattle.lease6_text.specs.Leases.{IaLeaseContent, Lease6Content}
 use Rattle.lease6_text.proofs.Apart.{Apart, apart_from, pairs_from}
 use Rattle.settings.specs.declared.dhcp6_conf.IaConf.{IaConf}
 use Rattle.settings.specs.Dhcp6Settings.{conf_key}
-use Rattle.v6_client.specs.declared.setup.IaAsk.{IaAsk}
+use Rattle.v6_client.specs.V6Items.declared.asks.IaAsk.{IaAsk}
 use Rattle.v6_client.specs.declared.states.State6.{State6}
 use Rattle.v6_client.specs.declared.states.State6.TheVariants.{Off, Waiting, Soliciting, Requesting, Bound, Renewing, Rebinding, Restarting, Declining}
 use Rattle.v6_client.specs.Calls.{has_origin}
-use Rattle.v6_client.specs.Bounds.{FitsAsks, ask_key}
+use Rattle.v6_client.specs.V6Items.Bounds.{FitsAsks, ask_key}
 use Rattle.v6_client.specs.Clients.{ClientContent, client_made, held_of, holds}
-use Rattle.v6_client.specs.Items.{ias_of}
+use Rattle.v6_client.specs.V6Items.Items.{ias_of}
 use Rattle.world.specs.declared.wakes.Event.TheVariants.{Quiet}
 use Rattle.script_model.specs.IfaceSets.{is_up}
 use Rattle.net_types.specs.declared.address.Ip6.{Ip6}

@@ -15,17 +15,17 @@ use Rattle.lease6_text.specs.Bounds.{FitsLease6}
 use Rattle.lease6_text.specs.LineParts.{is_ia, is_same_kind}
 use Rattle.v6_retrans.specs.declared.parameters.TheConstants.{REQUEST, DECLINE}
 use Rattle.v6_client.specs.declared.exchange.Exchange6.{Exchange6}
-use Rattle.v6_client.specs.declared.setup.IaAsk.{IaAsk}
-use Rattle.v6_client.specs.declared.states.Dates6.{Dates6}
+use Rattle.v6_client.specs.V6Items.declared.asks.IaAsk.{IaAsk}
+use Rattle.v6_client.specs.V6Items.declared.scope.Dates6.{Dates6}
 use Rattle.lease6_text.specs.Leases.{IaLeaseContent, Lease6Content}
-use Rattle.v6_client.specs.declared.states.Cause6.{Cause6}
-use Rattle.v6_client.specs.declared.states.Cause6.TheVariants.{Lapse, Duplicate}
+use Rattle.v6_client.specs.V6Items.declared.scope.Cause6.{Cause6}
+use Rattle.v6_client.specs.V6Items.declared.scope.Cause6.TheVariants.{Lapse, Duplicate}
 use Rattle.v6_client.specs.declared.states.Keep6.{Keep6}
 use Rattle.v6_client.specs.declared.states.Keep6.TheVariants.{Stays, Clears, Takes}
-use Rattle.v6_client.specs.declared.states.Parting6.{Parting6}
+use Rattle.v6_client.specs.V6Items.declared.scope.Parting6.{Parting6}
 use Rattle.v6_client.specs.declared.states.Carrier6.TheVariants.{Up, Down}
-use Rattle.v6_client.specs.declared.states.Scope6.{Scope6}
-use Rattle.v6_client.specs.declared.states.Scope6.TheVariants as scope
+use Rattle.v6_client.specs.V6Items.declared.scope.Scope6.{Scope6}
+use Rattle.v6_client.specs.V6Items.declared.scope.Scope6.TheVariants as scope
 use Rattle.v6_client.specs.declared.states.State6.{State6}
 use Rattle.v6_client.specs.declared.states.State6.TheVariants.{Off, Waiting, Soliciting, Requesting, Bound, Renewing, Rebinding, Restarting, Declining}
 use Rattle.v6_client.specs.declared.states.Step6.{Step6}
@@ -36,7 +36,7 @@ use Rattle.v6_client.specs.Calls.{dates_in, due_of, has_origin, parting_begun, s
 use Rattle.v6_client.specs.Clients.{ClientContent, PleaContent, holds, is_at_end, scope_of, turn_of}
 use Rattle.v6_client.specs.Exchanges.{is_again_due, is_used_up}
 use Rattle.v6_client.specs.Inputs.{begins, duplicate_row, rebind_row, release_row, released, stops}
-use Rattle.v6_client.specs.Items.{asked_at, goes_of, ia_with, ias_of, items_at, pruned_ia, pruned_ias, stays_in, staying}
+use Rattle.v6_client.specs.V6Items.Items.{asked_at, goes_of, ia_with, ias_of, items_at, pruned_ia, pruned_ias, stays_in, staying}
 use Rattle.v6_client.specs.Laws.{is_over_at}
 use Rattle.v6_client.specs.Moves.{given_up, kept_after, lapsed, parting_at, thinned_lease}
 use Rattle.v6_client.specs.Runs.{Turned6, carrier_turned, contested_turned, rebind_turned, release_turned, rested, stepped, tick_turned}
@@ -46,7 +46,7 @@ use Rattle.v6_client.specs.Steps.{expires, is_last, keep_by, loses, tells_partin
 use Rattle.v6_client.specs.Ticks.{restarting_tick, tick_row}
 use Rattle.v6_client_laws.proofs.Lapsing.{start_row}
 use Rattle.v6_client_laws.proofs.Lapsing as lapsing
-use Rattle.v6_client.proofs.TakenFits.{kind_is}
+use Rattle.v6_client.proofs.V6Items.TakenFits.{kind_is}
 use Rattle.lease_evidence.specs.ClientModel.ClientSettings6.{settings6_of}
 use Rattle.lease_evidence.specs.EvidenceWords.Entries.{Entry}
 use Rattle.lease_evidence.specs.EvidenceWords.Inputs.{Site, index_at}

@@ -11,7 +11,7 @@ use Rattle.v6_frames.specs.Heard.{HeardMessage6}
 use Rattle.v6_frames.specs.Spelled.{Sent6}
 use Rattle.v6_client.specs.declared.states.State6.{State6}
 use Rattle.v6_client.specs.declared.states.State6.TheVariants.{Off}
-use Rattle.v6_client.specs.declared.states.Cause6.TheVariants.{Lapse}
+use Rattle.v6_client.specs.V6Items.declared.scope.Cause6.TheVariants.{Lapse}
 use Rattle.v6_client.specs.Calls.{dates_in, due_of}
 use Rattle.v6_client.specs.Clients.{ClientContent, turn_of}
 use Rattle.v6_client.specs.Moves.{parting_at}

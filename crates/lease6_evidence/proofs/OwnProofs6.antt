@@ -11,9 +11,9 @@ use Rattle.v6_frames.specs.Spelled.{Sent6, sent6_in}
 use Rattle.v6_frames.proofs.FramesBack.{spelled_alone}
 use Rattle.lease6_text.specs.LineParts.{is_same_kind}
 use Rattle.settings.specs.declared.interfaces.Managed.{Managed}
-use Rattle.v6_client.specs.declared.setup.IaAsk.{IaAsk}
-use Rattle.v6_client.specs.Asking.{hinted, ia_solicited}
-use Rattle.v6_client.proofs.TakenFits.{kind_is}
+use Rattle.v6_client.specs.V6Items.declared.asks.IaAsk.{IaAsk}
+use Rattle.v6_client.specs.V6Items.Asking.{hinted, ia_solicited}
+use Rattle.v6_client.proofs.V6Items.TakenFits.{kind_is}
 use Rattle.lease_evidence.specs.EvidenceWords.Inputs.{Site}
 use Rattle.lease6_evidence.specs.Exchanges6.{if_own, is_own}
 use Rattle.lease6_evidence.specs.OwnFrames6.{IsOwnFrame6, NamesAll, OwnFrames6Alone, ias_named, ias_wanted}

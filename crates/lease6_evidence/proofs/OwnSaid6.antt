@@ -13,13 +13,13 @@ use Rattle.v6_message.specs.Requests.{AskedContent}
 use Rattle.lease6_text.specs.LineParts.{is_same_kind}
 use Rattle.lease6_text.specs.Leases.{IaLeaseContent, Lease6Content}
 use Rattle.settings.specs.declared.interfaces.Managed.{Managed}
-use Rattle.v6_client.specs.declared.setup.IaAsk.{IaAsk}
+use Rattle.v6_client.specs.V6Items.declared.asks.IaAsk.{IaAsk}
 use Rattle.v6_client.specs.declared.states.Say6.{Say6}
-use Rattle.v6_client.specs.declared.states.Scope6.{Scope6}
-use Rattle.v6_client.specs.declared.states.Scope6.TheVariants as scope
-use Rattle.v6_client.specs.Asking.{asked_with, hinted, ia_asked, ia_offered, ia_solicited, ias_asked, ias_declined, ias_lapsed, ias_offered, ias_released, named_with, nets_gone, nets_in}
+use Rattle.v6_client.specs.V6Items.declared.scope.Scope6.{Scope6}
+use Rattle.v6_client.specs.V6Items.declared.scope.Scope6.TheVariants as scope
+use Rattle.v6_client.specs.V6Items.Asking.{asked_with, hinted, ia_asked, ia_offered, ia_solicited, ias_asked, ias_declined, ias_lapsed, ias_offered, ias_released, named_with, nets_gone, nets_in}
 use Rattle.v6_client.specs.Clients.{PleaContent}
-use Rattle.v6_client.specs.Items.{asked_at, ias_of, is_nonempty, items_at}
+use Rattle.v6_client.specs.V6Items.Items.{asked_at, ias_of, is_nonempty, items_at}
 use Rattle.v6_client.specs.Moves.{plea_by, plea_lapsed}
 use Rattle.v6_client.specs.Saying.{ias_said, plea_ias, rapid_said, server_said}
 use Rattle.lease_evidence.specs.ClientModel.ClientSettings6.{ask_for}

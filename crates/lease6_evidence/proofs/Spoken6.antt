@@ -15,7 +15,7 @@ use Rattle.v4_frames.specs.declared.sent.TheConstants as ports
 use Rattle.v4_frames.specs.InRange.{FitsMac}
 use Rattle.lease_evidence.specs.V4Client.declared.states.Say4.{Say4}
 use Rattle.lease_evidence.specs.V4Client.Saying.{sent_of}
-use Rattle.v6_client.specs.Items.{is_nonempty}
+use Rattle.v6_client.specs.V6Items.Items.{is_nonempty}
 use Rattle.v6_frames.specs.InRange.{FitsSent6}
 use Rattle.v6_frames.specs.Spelled.{Sent6, sent6_in}
 use Rattle.v6_frames.proofs.FramesBack.{reads_back}

@@ -12,7 +12,7 @@ use Rattle.lease6_text.specs.declared.lease.Item6.{Item6}
 use Rattle.lease6_text.specs.declared.lease.TheConstants.{ITEM_LIMIT}
 use Rattle.lease6_text.specs.LineParts.{is_of_net}
 use Rattle.lease6_text.proofs.Apart.{Apart, apart_more}
-use Rattle.v6_client.specs.Taking.{IaTaking, item_from, place_of, placed, taken_out, takes_item}
+use Rattle.v6_client.specs.V6Items.Taking.{IaTaking, item_from, place_of, placed, taken_out, takes_item}
 
 abbrev pub UnlikeNets : Item6 → Item6 → Type 0
 UnlikeNets one other = one.net ≢ other.net

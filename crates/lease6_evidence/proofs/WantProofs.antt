@@ -10,7 +10,7 @@ use Rattle.v6_options.specs.Ias.{ias_in}
 use Rattle.v6_message.specs.Replies.{Content6}
 use Rattle.v6_frames.specs.Spelled.{Sent6}
 use Rattle.v6_client.specs.Answers.{is_duid}
-use Rattle.v6_client.specs.Reading.{serves}
+use Rattle.v6_client.specs.V6Items.Reading.{serves}
 use Rattle.v6_client_laws.specs.GivenItems.{Serves}
 use Rattle.v6_client_laws.proofs.Given.{items_are_given, messages_serve}
 use Rattle.lease_evidence.specs.EvidenceWords.Entries.{Entry, Offer}

@@ -7,8 +7,8 @@ use Rattle.v6_options.specs.declared.ia.IaKind.TheVariants.{Na}
 use Rattle.v6_options.specs.declared.ia.ItemSaid.{ItemSaid}
 use Rattle.v6_options.specs.Ias.{IaContent, ias_in}
 use Rattle.v6_message.specs.Replies.{Content6}
-use Rattle.v6_client.specs.declared.setup.IaAsk.{IaAsk}
-use Rattle.v6_client.specs.Reading.{ia_for, no_binding, saids_of}
+use Rattle.v6_client.specs.V6Items.declared.asks.IaAsk.{IaAsk}
+use Rattle.v6_client.specs.V6Items.Reading.{ia_for, no_binding, saids_of}
 use Rattle.world.specs.declared.wakes.Event.TheVariants.{Duplicate, Release, Stop}
 use Rattle.lease_evidence.specs.EvidenceWords.Entries.{Entry}
 use Rattle.lease_evidence.specs.EvidenceWords.Inputs.{Site, has_carrier, index_at}

@@ -5,8 +5,8 @@ use Rattle.v6_message.specs.declared.kind.Kind6.{Kind6}
 use Rattle.v6_message.specs.declared.kind.Kind6.TheVariants as kind
 use Rattle.v6_message.specs.Requests.{AskedContent}
 use Rattle.v6_frames.specs.Spelled.{Sent6, frame6_of}
-use Rattle.v6_client.specs.declared.setup.IaAsk.{IaAsk}
-use Rattle.v6_client.specs.Asking.{ia_solicited}
+use Rattle.v6_client.specs.V6Items.declared.asks.IaAsk.{IaAsk}
+use Rattle.v6_client.specs.V6Items.Asking.{ia_solicited}
 use Rattle.lease_evidence.specs.EvidenceWords.Entries.{Offer}
 use Rattle.lease_evidence.specs.EvidenceWords.Inputs.{Site}
 use Rattle.lease6_evidence.specs.Exchanges6.{message6_of}

@@ -6,9 +6,9 @@ use Rattle.v6_message.specs.declared.kind.Kind6.TheVariants as kind
 use Rattle.v6_message.specs.Requests.{AskedContent, SaidContent}
 use Rattle.lease6_text.specs.LineParts.{is_same_kind}
 use Rattle.settings.specs.declared.interfaces.Managed.{Managed}
-use Rattle.v6_client.specs.declared.setup.IaAsk.{IaAsk}
-use Rattle.v6_client.specs.Asking.{hinted}
-use Rattle.v6_client.specs.Items.{is_nonempty}
+use Rattle.v6_client.specs.V6Items.declared.asks.IaAsk.{IaAsk}
+use Rattle.v6_client.specs.V6Items.Asking.{hinted}
+use Rattle.v6_client.specs.V6Items.Items.{is_nonempty}
 use Rattle.lease_evidence.specs.ClientModel.ClientSettings6.{ask_for}
 
 -- ---- the IAs of a message

@@ -7,7 +7,7 @@ use Rattle.v6_message.specs.declared.kind.ServerKind6.{ServerKind6}
 use Rattle.v6_message.specs.declared.kind.ServerKind6.TheVariants.{Advertise, Reply}
 use Rattle.v6_message.specs.Replies.{Content6}
 use Rattle.v6_frames.specs.Heard.{HeardMessage6, heard6_in}
-use Rattle.v6_client.specs.declared.setup.IaAsk.{IaAsk}
+use Rattle.v6_client.specs.V6Items.declared.asks.IaAsk.{IaAsk}
 use Rattle.v6_client.specs.Answers.{has_bytes, is_duid}
 use Rattle.v6_client_laws.specs.GivenItems.{Serves}
 use Rattle.world.specs.declared.wakes.Event.{Event}

@@ -13,9 +13,9 @@ use Rattle.v6_message.specs.Replies.{Content6}
 use Rattle.v6_frames.specs.Spelled.{Sent6}
 use Rattle.lease6_text.specs.declared.lease.Item6.{Item6}
 use Rattle.lease6_text.specs.Leases.{IaLeaseContent}
-use Rattle.v6_client.specs.declared.setup.IaAsk.{IaAsk}
+use Rattle.v6_client.specs.V6Items.declared.asks.IaAsk.{IaAsk}
 use Rattle.v6_client.specs.Answers.{is_duid}
-use Rattle.v6_client.specs.Reading.{serves}
+use Rattle.v6_client.specs.V6Items.Reading.{serves}
 use Rattle.lease_evidence.specs.EvidenceWords.Entries.{Entry, Offer}
 use Rattle.lease_evidence.specs.EvidenceWords.Inputs.{Site, offers_at}
 use Rattle.lease6_evidence.specs.Ends6.{WasAnswered, said_for}

@@ -10,8 +10,8 @@ use Rattle.net_types.specs.declared.address.Net6.{Net6}
 use Rattle.v6_options.specs.declared.ia.ItemSaid.{ItemSaid}
 use Rattle.v6_options.specs.Ias.{IaContent, ias_in}
 use Rattle.v6_message.specs.Replies.{Content6}
-use Rattle.v6_client.specs.declared.setup.IaAsk.{IaAsk}
-use Rattle.v6_client.specs.Reading.{serves}
+use Rattle.v6_client.specs.V6Items.declared.asks.IaAsk.{IaAsk}
+use Rattle.v6_client.specs.V6Items.Reading.{serves}
 use Rattle.v6_client_laws.specs.GivenItems.{IsHeldAs}
 use Rattle.v6_client_laws.proofs.FirstItems.{middle_in}
 use Rattle.v6_client_laws.proofs.Given.{messages_serve}

@@ -13,8 +13,8 @@ use Rattle.v6_options.specs.declared.ia.ItemSaid.{ItemSaid}
 use Rattle.v6_options.specs.Ias.{IaContent, ias_in}
 use Rattle.v6_message.specs.Replies.{Content6}
 use Rattle.lease6_text.specs.LineParts.{is_same_kind}
-use Rattle.v6_client.specs.declared.setup.IaAsk.{IaAsk}
-use Rattle.v6_client.specs.Reading.{cleared, is_for, is_read, is_readable, read_item}
+use Rattle.v6_client.specs.V6Items.declared.asks.IaAsk.{IaAsk}
+use Rattle.v6_client.specs.V6Items.Reading.{cleared, is_for, is_read, is_readable, read_item}
 use Rattle.v6_client_laws.specs.GivenItems.{IsHeldAs, IsOf, IsWell, MayBeHeld}
 use Rattle.v6_client_laws.proofs.FirstItems.{behind_in, front_in, none_in}
 use Rattle.v6_client_laws.proofs.ItemTests.{held_as, held_is, may_decides, valid_as, well_decides}

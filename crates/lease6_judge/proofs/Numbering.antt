@@ -7,7 +7,7 @@ use Rattle.machine.specs.Since.{Always}
 use Rattle.v6_message.specs.Replies.{Content6}
 use Rattle.v6_message.specs.Requests.{SaidContent}
 use Rattle.v6_frames.specs.Spelled.{Sent6}
-use Rattle.v6_client.specs.Reading.{serves}
+use Rattle.v6_client.specs.V6Items.Reading.{serves}
 use Rattle.v6_client_laws.proofs.Given.{messages_serve}
 use Rattle.lease6_evidence.specs.EvidenceWords.Entries.{Entry}
 use Rattle.lease6_evidence.specs.EvidenceWords.Inputs.{Site, index_at, has_carrier, carrier_after}

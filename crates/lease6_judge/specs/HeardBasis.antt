@@ -11,7 +11,7 @@ use Rattle.v6_options.specs.declared.ia.IaKind.TheVariants.{Na}
 use Rattle.v6_options.specs.declared.ia.ItemSaid.{ItemSaid}
 use Rattle.v6_options.specs.Ias.{IaContent, ias_in}
 use Rattle.v6_message.specs.Replies.{Content6}
-use Rattle.v6_client.specs.declared.setup.IaAsk.{IaAsk}
+use Rattle.v6_client.specs.V6Items.declared.asks.IaAsk.{IaAsk}
 use Rattle.v6_client_laws.specs.GivenItems.{IsHeldAs, IsOf, IsWell, MayBeHeld}
 use Rattle.lease6_evidence.specs.EvidenceWords.Entries.{Entry}
 use Rattle.lease6_evidence.specs.EvidenceWords.Inputs.{Site, StaysOn, index_at}

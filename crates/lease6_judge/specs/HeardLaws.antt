@@ -3,7 +3,7 @@ use Rattle.std.specs.Prelude.{◌≡◌, ◌↔◌, ℕ, true, List}
 use Rattle.std.specs.List.{Contains}
 use Rattle.net_types.specs.declared.address.Net.{Net}
 use Rattle.net_types.specs.declared.address.Net6.{Net6}
-use Rattle.v6_client.specs.declared.setup.IaAsk.{IaAsk}
+use Rattle.v6_client.specs.V6Items.declared.asks.IaAsk.{IaAsk}
 use Rattle.lease6_evidence.specs.EvidenceWords.Entries.{Entry}
 use Rattle.lease6_evidence.specs.EvidenceWords.Inputs.{Site}
 use Rattle.lease6_evidence.specs.ItemBasis.{AddressBasis, ItemBasis}

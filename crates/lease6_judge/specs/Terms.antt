@@ -9,9 +9,9 @@ use Rattle.v6_options.specs.declared.ia.IaKind.TheVariants.{Na, Pd}
 use Rattle.v6_options.specs.declared.ia.ItemSaid.{ItemSaid}
 use Rattle.v6_options.specs.Ias.{ias_in}
 use Rattle.v6_message.specs.Replies.{Content6}
-use Rattle.v6_client.specs.declared.setup.IaAsk.{IaAsk}
-use Rattle.v6_client.specs.declared.times.TheConstants.{FOREVER, SECOND}
-use Rattle.v6_client.specs.Reading.{ia_for, is_unbound}
+use Rattle.v6_client.specs.V6Items.declared.asks.IaAsk.{IaAsk}
+use Rattle.v6_client.specs.V6Items.declared.times.TheConstants.{FOREVER, SECOND}
+use Rattle.v6_client.specs.V6Items.Reading.{ia_for, is_unbound}
 use Rattle.world.specs.declared.wakes.Event.{Event}
 use Rattle.world.specs.declared.wakes.Event.TheVariants.{Carrier, Duplicate, Release, Stop}
 use Rattle.lease6_evidence.specs.EvidenceWords.Entries.{Entry}

@@ -2,7 +2,7 @@
 -- (RFC 8415, sections 16.10 and 18.2.10). It takes one turn after another, and looks back at none.
 use Rattle.std.specs.Prelude.{ℕ, Bool, not, ◌&&◌, ◌==◌, if◌then◌else◌, List, [], ◌∷◌, Option, Some, None}
 use Rattle.v6_message.specs.Replies.{Content6}
-use Rattle.v6_client.specs.Reading.{serves}
+use Rattle.v6_client.specs.V6Items.Reading.{serves}
 use Rattle.lease6_evidence.specs.EvidenceWords.Entries.{Entry}
 use Rattle.lease6_evidence.specs.EvidenceWords.Inputs.{Site, index_at, carrier_after}
 use Rattle.lease6_evidence.specs.Exchanges6.{Numbered6, Seen6, messages6_at, show6}

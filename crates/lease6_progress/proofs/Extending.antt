@@ -10,9 +10,9 @@ use Rattle.v6_message.specs.Replies.{Content6}
 use Rattle.lease6_text.specs.Leases.{Lease6Content}
 use Rattle.v6_client.specs.declared.exchange.Exchange6.{Exchange6}
 use Rattle.v6_client.specs.declared.states.Answer6.TheVariants as answer
-use Rattle.v6_client.specs.declared.states.Cause6.TheVariants.{Duplicate}
+use Rattle.v6_client.specs.V6Items.declared.scope.Cause6.TheVariants.{Duplicate}
 use Rattle.v6_client.specs.declared.states.News6.TheVariants as news
-use Rattle.v6_client.specs.declared.states.Parting6.{Parting6}
+use Rattle.v6_client.specs.V6Items.declared.scope.Parting6.{Parting6}
 use Rattle.v6_client.specs.declared.states.State6.{State6}
 use Rattle.v6_client.specs.declared.states.State6.TheVariants.{Bound, Renewing, Rebinding}
 use Rattle.v6_client.specs.declared.turn.Turn6.{Turn6}
@@ -21,7 +21,7 @@ use Rattle.v6_client.specs.Calls.{fresh_in}
 use Rattle.v6_client.specs.Clients.{ClientContent, PleaContent, turn_of}
 use Rattle.v6_client.specs.Hearing.{heard_row}
 use Rattle.v6_client.specs.Moves.{declining_now, parting_at}
-use Rattle.v6_client.specs.Reading.{serves}
+use Rattle.v6_client.specs.V6Items.Reading.{serves}
 use Rattle.v6_client.specs.Runs.{Turned6, answered, contested_turned, hears_turned, stepped}
 use Rattle.v6_client.specs.Settings.{SettingsContent}
 use Rattle.v6_client.specs.Steps.{declines, keep_by, rests}

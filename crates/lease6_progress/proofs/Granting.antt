@@ -13,11 +13,11 @@ use Rattle.v6_message.specs.Replies.{Content6}
 use Rattle.lease6_text.specs.declared.lease.Item6.{Item6}
 use Rattle.lease6_text.specs.declared.lease.TheConstants.{ITEM_LIMIT}
 use Rattle.lease6_text.specs.Leases.{IaLeaseContent, Lease6Content}
-use Rattle.v6_client.specs.declared.setup.IaAsk.{IaAsk}
+use Rattle.v6_client.specs.V6Items.declared.asks.IaAsk.{IaAsk}
 use Rattle.v6_client.specs.Answers.{is_duid, is_from, meeting_of, server_of, granted}
 use Rattle.v6_client.specs.Clients.{ClientContent}
-use Rattle.v6_client.specs.Items.{ia_with, is_nonempty}
-use Rattle.v6_client.specs.Taking.{IaTaking, Meeting, ia_granted, ias_granted, item_from, origin_granted, place_of, placed, spans_granted, t1_granted, t2_granted, taken_by, takes_item, values_granted}
+use Rattle.v6_client.specs.V6Items.Items.{ia_with, is_nonempty}
+use Rattle.v6_client.specs.V6Items.Taking.{IaTaking, Meeting, ia_granted, ias_granted, item_from, origin_granted, place_of, placed, spans_granted, t1_granted, t2_granted, taken_by, takes_item, values_granted}
 use Rattle.lease6_progress.specs.Acquiring.{has_item}
 use Rattle.lease6_progress.specs.Questions.{gives, gives_items, said_for}
 

@@ -18,7 +18,7 @@ use Rattle.v6_client.specs.declared.turn.Turn6.{Turn6}
 use Rattle.v6_client.specs.Answers.{chosen, counts, granted, grants_or_empties, is_from, plea_offered, server_of, sol_max_with}
 use Rattle.v6_client.specs.Clients.{ClientContent, PleaContent, turn_of}
 use Rattle.v6_client.specs.Hearing.{heard_row, is_better, is_taken_at_once}
-use Rattle.v6_client.specs.Reading.{serves}
+use Rattle.v6_client.specs.V6Items.Reading.{serves}
 use Rattle.v6_client.specs.Runs.{Turned6, answered, contested_turned, hears_turned, rebind_turned, stepped}
 use Rattle.v6_client.specs.Saying.{SpokenContent, plea_server}
 use Rattle.v6_client.specs.Settings.{SettingsContent}

@@ -11,26 +11,27 @@ use Rattle.v6_message.specs.declared.kind.Kind6.TheVariants as kind
 use Rattle.v6_message.specs.Requests.{AskedContent}
 use Rattle.lease6_text.specs.Leases.{IaLeaseContent, Lease6Content}
 use Rattle.v6_client.specs.declared.exchange.Exchange6.{Exchange6}
-use Rattle.v6_client.specs.declared.states.Cause6.TheVariants.{Lapse}
-use Rattle.v6_client.specs.declared.states.Dates6.{Dates6}
-use Rattle.v6_client.specs.declared.states.Parting6.{Parting6}
-use Rattle.v6_client.specs.declared.states.Scope6.TheVariants as scope
+use Rattle.v6_client.specs.V6Items.declared.scope.Cause6.TheVariants.{Lapse}
+use Rattle.v6_client.specs.V6Items.declared.scope.Dates6.{Dates6}
+use Rattle.v6_client.specs.V6Items.declared.scope.Parting6.{Parting6}
+use Rattle.v6_client.specs.V6Items.declared.scope.Scope6.TheVariants as scope
 use Rattle.v6_client.specs.declared.states.State6.{State6}
 use Rattle.v6_client.specs.declared.states.State6.TheVariants.{Off, Waiting, Soliciting, Requesting, Bound, Renewing, Rebinding, Restarting, Declining}
 use Rattle.v6_client.specs.declared.states.Step6.{Step6}
 use Rattle.v6_client.specs.declared.turn.Turn6.{Turn6}
-use Rattle.v6_client.specs.Asking.{ias_asked}
+use Rattle.v6_client.specs.V6Items.Asking.{ias_asked}
 use Rattle.v6_client.specs.Calls.{dates_in, due_of}
 use Rattle.v6_client.specs.Clients.{ClientContent, PleaContent, holds, is_at_end, turn_of}
 use Rattle.v6_client.specs.Exchanges.{is_again_due, new_xid, other_than, xid_drawn}
-use Rattle.v6_client.specs.Items.{without}
+use Rattle.v6_client.specs.V6Items.Items.{without}
 use Rattle.v6_client.specs.Moves.{lapsed, lease_with, parting_at, plea_lapsed}
 use Rattle.v6_client.specs.Runs.{Turned6, stepped, tick_turned}
 use Rattle.v6_client.specs.Saying.{SpokenContent, spoken_by}
 use Rattle.v6_client.specs.Settings.{SettingsContent}
 use Rattle.v6_client.specs.Steps.{is_last, rebinds, renews}
 use Rattle.v6_client.specs.Ticks.{bound_tick, rebinding_tick, renewing_tick, tick_row}
-use Rattle.v6_client.specs.Times.{earlier, elapsed}
+use Rattle.v6_client.specs.Times.{elapsed}
+use Rattle.v6_client.specs.V6Items.Times.{earlier}
 use Rattle.lease6_progress.specs.GoingWell.{Answered, EachQuestion, RebindsAlone, NotAfter, Serves}
 use Rattle.lease6_progress.specs.Questions.{Question, asked_by, new_question}
 use Rattle.lease6_progress.specs.Staying.{IsAhead, IsBefore, IsRenewedInTime, IsValidUntil, asked_when, has_valid}

@@ -7,12 +7,12 @@ use Rattle.v6_message.specs.declared.kind.Kind6.TheVariants as kind
 use Rattle.v6_retrans.specs.declared.parameters.TheConstants.{REQUEST}
 use Rattle.lease6_text.specs.Leases.{Lease6Content}
 use Rattle.v6_client.specs.declared.exchange.Exchange6.{Exchange6}
-use Rattle.v6_client.specs.declared.states.Scope6.TheVariants as scope
+use Rattle.v6_client.specs.V6Items.declared.scope.Scope6.TheVariants as scope
 use Rattle.v6_client.specs.declared.states.State6.{State6}
 use Rattle.v6_client.specs.declared.states.State6.TheVariants.{Off, Waiting, Soliciting, Requesting, Bound, Renewing, Rebinding, Restarting, Declining}
 use Rattle.v6_client.specs.declared.states.Step6.{Step6}
 use Rattle.v6_client.specs.declared.turn.Turn6.{Turn6}
-use Rattle.v6_client.specs.Asking.{ia_solicited}
+use Rattle.v6_client.specs.V6Items.Asking.{ia_solicited}
 use Rattle.v6_client.specs.Calls.{due_of}
 use Rattle.v6_client.specs.Clients.{ClientContent, PleaContent, turn_of}
 use Rattle.v6_client.specs.Exchanges.{begun, is_used_up, new_xid, rand_in}

@@ -8,9 +8,9 @@ use Rattle.net_types.proofs.CaseLaws.{split}
 use Rattle.lease6_text.specs.declared.lease.Item6.{Item6}
 use Rattle.lease6_text.specs.Leases.{IaLeaseContent}
 use Rattle.lease6_text.specs.LineParts.{is_ia}
-use Rattle.v6_client.specs.declared.setup.IaAsk.{IaAsk}
-use Rattle.v6_client.specs.declared.states.Cause6.TheVariants.{Lapse}
-use Rattle.v6_client.specs.Items.{asked_at, is_live, is_nonempty, staying, thinned, without}
+use Rattle.v6_client.specs.V6Items.declared.asks.IaAsk.{IaAsk}
+use Rattle.v6_client.specs.V6Items.declared.scope.Cause6.TheVariants.{Lapse}
+use Rattle.v6_client.specs.V6Items.Items.{asked_at, is_live, is_nonempty, staying, thinned, without}
 use Rattle.lease6_progress.specs.Staying.{IsAhead, IsValidUntil, has_valid}
 
 -- ---- lists

@@ -7,7 +7,7 @@ use Rattle.lease6_text.specs.Leases.{Lease6Content}
 use Rattle.v6_client.specs.declared.states.State6.TheVariants.{Bound}
 use Rattle.v6_client.specs.Calls.{parting_begun}
 use Rattle.v6_client.specs.Clients.{client_made, held_of}
-use Rattle.v6_client.specs.Items.{is_nonempty}
+use Rattle.v6_client.specs.V6Items.Items.{is_nonempty}
 use Rattle.v6_client.specs.Settings.{SettingsContent}
 use Rattle.lease6_progress.specs.ClientTurns.{ClientTurn, Input6, Hears, Start, client_run, now_in}
 use Rattle.lease6_progress.specs.GoingWell.{EachQuestion, Fair, Prompt}

@@ -3,9 +3,9 @@ use Rattle.std.specs.Prelude.{◌≡◌, ℕ, ◌+◌, ◌≤◌, max, Bool, tru
 use Rattle.v6_message.specs.declared.kind.Kind6.{Kind6}
 use Rattle.v6_message.specs.declared.kind.Kind6.TheVariants as kind
 use Rattle.v6_message.specs.declared.kind.ServerKind6.TheVariants.{Reply}
-use Rattle.v6_client.specs.declared.setup.IaAsk.{IaAsk}
+use Rattle.v6_client.specs.V6Items.declared.asks.IaAsk.{IaAsk}
 use Rattle.v6_client.specs.Calls.{due_of}
-use Rattle.v6_client.specs.Reading.{serves}
+use Rattle.v6_client.specs.V6Items.Reading.{serves}
 use Rattle.lease6_progress.specs.ClientTurns.{ClientTurn, Input6, Hears, Drops, Releases, Start, client_run, now_in}
 use Rattle.lease6_progress.specs.Questions.{Question, gives, question_in}
 

@@ -8,9 +8,9 @@ use Rattle.v6_message.specs.declared.kind.Kind6.TheVariants as kind
 use Rattle.v6_message.specs.declared.kind.ServerKind6.{ServerKind6}
 use Rattle.v6_message.specs.declared.kind.ServerKind6.TheVariants.{Advertise, Reply}
 use Rattle.v6_message.specs.Replies.{Content6}
-use Rattle.v6_client.specs.declared.setup.IaAsk.{IaAsk}
+use Rattle.v6_client.specs.V6Items.declared.asks.IaAsk.{IaAsk}
 use Rattle.v6_client.specs.Answers.{has_bytes, is_from}
-use Rattle.v6_client.specs.Reading.{ia_for, saids_of, serves}
+use Rattle.v6_client.specs.V6Items.Reading.{ia_for, saids_of, serves}
 use Rattle.v6_client.specs.Saying.{SpokenContent}
 use Rattle.v6_client.specs.Settings.{SettingsContent}
 use Rattle.lease6_progress.specs.ClientTurns.{ClientTurn, Input6, Hears, Start, acts_in, begun, client_run, takes_in}

@@ -5,12 +5,12 @@ use Rattle.std.specs.List.{list_any}
 use Rattle.v6_message.specs.declared.kind.ServerKind6.TheVariants.{Reply}
 use Rattle.v6_retrans.specs.declared.parameters.TheConstants.{SOLICIT}
 use Rattle.lease6_text.specs.Leases.{IaLeaseContent, Lease6Content}
-use Rattle.v6_client.specs.declared.setup.IaAsk.{IaAsk}
-use Rattle.v6_client.specs.declared.states.Cause6.TheVariants.{Duplicate}
+use Rattle.v6_client.specs.V6Items.declared.asks.IaAsk.{IaAsk}
+use Rattle.v6_client.specs.V6Items.declared.scope.Cause6.TheVariants.{Duplicate}
 use Rattle.v6_client.specs.declared.states.State6.TheVariants.{Bound}
 use Rattle.v6_client.specs.Calls.{fresh_in}
 use Rattle.v6_client.specs.Clients.{ClientContent, held_of}
-use Rattle.v6_client.specs.Items.{asked_at, is_live}
+use Rattle.v6_client.specs.V6Items.Items.{asked_at, is_live}
 use Rattle.v6_client.specs.Moves.{parting_at}
 use Rattle.lease6_progress.specs.Acquiring.{BeginsAnew, longest_choice, longest_delay}
 use Rattle.lease6_progress.specs.ClientTurns.{ClientTurn, Input6, Hears, IsUsed, Rebinds, Start, acts_in, client_run, now_in}

@@ -11,9 +11,9 @@ use net_types::{IfIndex, IfSpec, Mac, NoMemory, append_text, read_ip6, read_name
 use settings::Flags;
 use std::alloc::Global;
 use v6_client::{
-    Carrier6, Client6, IaAsk, News6, Out6, Set6, carrier6, client6_new, duplicate6, heard6, held6,
-    kept6,
+    Carrier6, Client6, News6, Out6, Set6, carrier6, client6_new, duplicate6, heard6, held6, kept6,
 };
+use v6_items::IaAsk;
 use v6_message::read6;
 use v6_options::{Duid, IaKind};
 

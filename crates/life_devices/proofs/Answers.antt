@@ -465,3 +465,15 @@ abandoned_by failing running None new runs abandons = record { adds = tt; foreto
 abandoned_by failing false (Some told) new runs abandons = absurd cc
 abandoned_by None true (Some told) new runs abandons = record { adds = hooks_add Abandoned told new abandons; foretold_is = tt }
 abandoned_by (Some failing) true (Some told) new runs abandons = record { adds = hooks_add Abandoned told new abandons; foretold_is = (refl, abandons) }
+
+-- what an offer is answered by
+pub ruleset offer_answers = (offered_by, unoffered, offer_added, no_offer_added)
+
+-- what a listing of rows is answered by
+pub ruleset list_answers = (listed_by, failed_list_by, unlisted, rows_answered, no_rows_answered)
+
+-- what a listing of asides is answered by
+pub ruleset aside_answers = (asides_by, failed_asides_by, asides_unlisted, asides_answered, no_asides_answered)
+
+-- what the reading of a file is answered by
+pub ruleset read_answers = (found_by, missing_by, unread_by, not_read, found_answered, missing_answered, unread_answered)

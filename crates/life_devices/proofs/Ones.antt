@@ -123,7 +123,8 @@ link_tells call seen new calls faults adds added counted = record {
 
 host_tells : (call : HostCall) (seen : Seen) (new : Option HostTold) (faults : ℕ)
     → Adds (option_map (λ told. told.calls) seen.host.told) (option_map (λ told. told.calls) new) (call ∷ [])
-    → HostAnswered (call ∷ []) seen.host.told new → CountsFailed failed_host_call (call ∷ []) seen.host.faults faults → Tells seen (with_host seen new faults) (Host call ∷ [])
+    → HostAnswered (call ∷ []) seen.host.told new → CountsFailed failed_host_call (call ∷ []) seen.host.faults faults
+    → Tells seen (with_host seen new faults) (Host call ∷ [])
 host_tells call seen new faults adds table counted = record {
   link = adds_none _;
   link_calls = adds_none seen.link_calls;
@@ -199,7 +200,8 @@ one_offer iface frame taken seen new calls faults by added counted = record {
 }
 
 pub one_list : (rows : Option (List HostRow)) (seen : Seen) (new : Option HostTold) (faults : ℕ) → ListedBy rows seen.host.failing seen.host.told new
-    → HostAnswered (Listed rows ∷ []) seen.host.told new → CountsFailed failed_host_call (Listed rows ∷ []) seen.host.faults faults → One ListRows rows seen (with_host seen new faults)
+    → HostAnswered (Listed rows ∷ []) seen.host.told new → CountsFailed failed_host_call (Listed rows ∷ []) seen.host.faults faults
+    → One ListRows rows seen (with_host seen new faults)
 one_list rows seen new faults by table counted = record {
   tells = host_tells (Listed rows) seen new faults by.adds table counted;
   foretold =
@@ -209,7 +211,8 @@ one_list rows seen new faults by table counted = record {
 
 pub one_change : (change : HostChange) (done : Bool) (seen : Seen) (new : Option HostTold) (faults : ℕ)
     → ChangedBy change done seen.host.failing seen.host.told new
-    → HostAnswered (change_call change done ∷ []) seen.host.told new → CountsFailed failed_host_call (change_call change done ∷ []) seen.host.faults faults → One (Change change) done seen (with_host seen new faults)
+    → HostAnswered (change_call change done ∷ []) seen.host.told new
+    → CountsFailed failed_host_call (change_call change done ∷ []) seen.host.faults faults → One (Change change) done seen (with_host seen new faults)
 one_change change done seen new faults by table counted = record {
   tells = host_tells (change_call change done) seen new faults by.adds table counted;
   foretold =

@@ -36,7 +36,7 @@ pub struct Devices<L, S, H, K> {
     pub hooks: K,
 }
 
-#[tactic(auto, using(crate::proofs::Answers::offered_by, crate::proofs::Answers::unoffered, crate::proofs::Answers::offer_added, crate::proofs::Answers::no_offer_added))]
+#[tactic(auto, using(crate::proofs::Answers::offer_answers))]
 fn offer_to<L: Link>(link: &mut L, iface: IfIndex, frame: &[u8]) -> Result<bool, NoMemory>
     ensures offered { IfOk result
         (λ taken. OfferedBy iface.number frame.now taken (L.failing_sends link.old) (L.told link.old)
@@ -57,7 +57,7 @@ fn offer_to<L: Link>(link: &mut L, iface: IfIndex, frame: &[u8]) -> Result<bool,
     done(link.send(iface, frame))
 }
 
-#[tactic(auto, using(crate::proofs::Answers::listed_by, crate::proofs::Answers::failed_list_by, crate::proofs::Answers::unlisted, crate::proofs::Answers::rows_answered, crate::proofs::Answers::no_rows_answered))]
+#[tactic(auto, using(crate::proofs::Answers::list_answers))]
 fn list_of<H: Host>(alloc: Global, host: &mut H) -> Result<Option<Vec<HostRow>>, NoMemory>
     ensures listed { IfOk result
         (λ rows. ListedBy (rows_listed rows) (H.failing host.old) (H.told host.old) (H.told host.new)) }
@@ -96,7 +96,7 @@ fn change_of<H: Host>(host: &mut H, change: HostChange) -> Result<bool, NoMemory
     })
 }
 
-#[tactic(auto, using(crate::proofs::Answers::asides_by, crate::proofs::Answers::failed_asides_by, crate::proofs::Answers::asides_unlisted, crate::proofs::Answers::asides_answered, crate::proofs::Answers::no_asides_answered))]
+#[tactic(auto, using(crate::proofs::Answers::aside_answers))]
 fn asides_of<S: Store>(alloc: Global, store: &mut S) -> Result<Option<Vec<String>>, NoMemory>
     ensures listed { IfOk result
         (λ names. AsidesBy (names_of names) (S.failing store.old) (S.told store.old) (S.told store.new)) }
@@ -120,7 +120,7 @@ fn asides_of<S: Store>(alloc: Global, store: &mut S) -> Result<Option<Vec<String
     }
 }
 
-#[tactic(auto, using(crate::proofs::Answers::found_by, crate::proofs::Answers::missing_by, crate::proofs::Answers::unread_by, crate::proofs::Answers::not_read, crate::proofs::Answers::found_answered, crate::proofs::Answers::missing_answered, crate::proofs::Answers::unread_answered))]
+#[tactic(auto, using(crate::proofs::Answers::read_answers))]
 fn read_from<S: Store>(alloc: Global, store: &mut S, name: &str) -> Result<Got, NoMemory>
     requires { IsFileName name.now }
     ensures read { IfOk result

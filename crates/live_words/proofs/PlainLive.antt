@@ -48,3 +48,6 @@ plain_said words result live none read =
 pub begins : (words : List (List ℕ)) → is_live words ≡ true → BeginsLive words
 begins [] live = cc
 begins (work ∷ words) live = (words, ap (λ (w : List ℕ). w ∷ words) ((bytes_eq-Decides work (codes "live")).0 live))
+
+-- which words are those of a plain life
+pub ruleset plain_lives = (other_words, with_options, held_plain, plain_said, begins)

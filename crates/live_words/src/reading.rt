@@ -96,7 +96,7 @@ fn plain_said<'a>(alloc: Global, words: &'a [String]) -> Result<Option<LiveWords
     }
 }
 
-#[tactic(auto, using(crate::proofs::PlainLive::other_words, crate::proofs::PlainLive::with_options, crate::proofs::PlainLive::held_plain, crate::proofs::PlainLive::plain_said, crate::proofs::PlainLive::begins))]
+#[tactic(auto, using(crate::proofs::PlainLive::plain_lives))]
 fn live_of<'a>(alloc: Global, words: &'a [String]) -> Result<Option<LiveWords<'a>>, NoMemory>
     ensures value { IfOk result (λ found. option_map said_of found ≡ live_at (map string_bytes words.entry.now)) }
     ensures wants { IfErr result (λ _. BeginsLive (map string_bytes words.entry.now)) }

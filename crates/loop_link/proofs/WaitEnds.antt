@@ -58,3 +58,6 @@ pub nothing_is_before : (ended : Option Bool) (end : ℕ) (moments : Option Mome
     → heard ≡ cond over (Some Quiet) None → heard ≡ None → has_come end moments ≡ false
 nothing_is_before ended end moments true heard is so none = let never : Some Quiet ≡ None = sym so ∙ none in absurd cc
 nothing_is_before ended end moments false heard is so none = on_is_before ended end moments false is refl
+
+-- when it ends
+pub ruleset waits_end = (over_by_child, over_by_moment, over_is_due, on_is_before)

@@ -127,3 +127,6 @@ brings_then peer kept room due buffer event old mid new same first last = record
   came = hears_both peer first.heard [] old mid new first.came (subst (λ p. HearsNone p mid new) same last);
   says = first.says;
 }
+
+-- how a wait goes on
+pub ruleset waits_go_on = (nothing_heard, moment_told, both_quiet, none_heard, one_heard, then_brings, yet_if, quiet_or_on)

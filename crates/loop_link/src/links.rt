@@ -125,7 +125,7 @@ fn nothing_came(kind: ErrorKind) -> Result<Option<usize>, Failed>
     if is_over(kind) { Ok(None) } else { Err(Failed) }
 }
 
-#[tactic(auto, using(crate::proofs::WaitSteps::nothing_heard, crate::proofs::WaitSteps::moment_told, crate::proofs::WaitSteps::both_quiet, crate::proofs::WaitSteps::none_heard, crate::proofs::WaitSteps::one_heard, crate::proofs::WaitSteps::then_brings, crate::proofs::WaitSteps::yet_if, crate::proofs::WaitSteps::quiet_or_on, crate::proofs::WaitEnds::over_by_child, crate::proofs::WaitEnds::over_by_moment, crate::proofs::WaitEnds::over_is_due, crate::proofs::WaitEnds::on_is_before))]
+#[tactic(auto, using(crate::proofs::WaitSteps::waits_go_on, crate::proofs::WaitEnds::waits_end))]
 impl<L: Loopback + Drop, W: Watch + Drop> Wire<L, W> {
     /// Binds the socket, where that wasn't done before.
     fn bind(&mut self) -> Result<(), Failed>
@@ -353,6 +353,10 @@ impl<L: Loopback + Drop, W: Watch + Drop> LoopLink<L, W> {
     pub fn new(alloc: Global, line: L, watch: W, port: &str, peer: &str) -> LoopLink<L, W>
         ensures port { result.wire.port ≡ port_named port.now }
         ensures peer { result.wire.peer ≡ port_named peer.now }
+        ensures line { result.wire.line ≡ line }
+        ensures watch { result.wire.watch ≡ watch }
+        ensures unbound { result.wire.bound ≡ false }
+        ensures faults { (result.faults.count ≡ 0) × (result.send_faults.count ≡ 0) }
         ensures begins { result.begins ≡ 0 }
     {
         LoopLink {

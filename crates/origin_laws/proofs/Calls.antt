@@ -11,11 +11,11 @@ use Rattle.v6_message.specs.Replies.{Content6}
 use Rattle.lease6_text.specs.Leases.{Lease6Content}
 use Rattle.v6_client.specs.declared.states.Carrier6.{Carrier6}
 use Rattle.v6_client.specs.declared.states.Carrier6.TheVariants.{Up, Down}
-use Rattle.v6_client.specs.declared.states.Cause6.{Cause6}
-use Rattle.v6_client.specs.declared.states.Cause6.TheVariants.{Lapse, Duplicate}
+use Rattle.v6_client.specs.V6Items.declared.scope.Cause6.{Cause6}
+use Rattle.v6_client.specs.V6Items.declared.scope.Cause6.TheVariants.{Lapse, Duplicate}
 use Rattle.v6_client.specs.declared.states.Keep6.{Keep6}
 use Rattle.v6_client.specs.declared.states.Keep6.TheVariants.{Stays, Clears, Takes}
-use Rattle.v6_client.specs.declared.states.Parting6.{Parting6}
+use Rattle.v6_client.specs.V6Items.declared.scope.Parting6.{Parting6}
 use Rattle.v6_client.specs.declared.states.State6.{State6}
 use Rattle.v6_client.specs.declared.states.State6.TheVariants.{Off, Waiting, Soliciting, Requesting, Bound, Renewing, Rebinding, Restarting, Declining}
 use Rattle.v6_client.specs.declared.states.Tell6.{Tell6}
@@ -25,13 +25,13 @@ use Rattle.v6_client.specs.Calls.{carried_by, carrier_step, dates_in, due_of, fr
 use Rattle.v6_client.specs.Clients.{ClientContent, holds, is_at_end, is_declining, is_restarting, turn_of}
 use Rattle.v6_client.specs.Hearing.{heard_row}
 use Rattle.v6_client.specs.Inputs.{duplicate_row}
-use Rattle.v6_client.specs.Items.{is_nonempty}
+use Rattle.v6_client.specs.V6Items.Items.{is_nonempty}
 use Rattle.v6_client.specs.Laws.{IsGranting}
 use Rattle.v6_client.specs.Moves.{declining_now, given_up, kept_after, kept_left, lapsed, missing, parting_at, thinned_lease}
 use Rattle.v6_client.specs.Runs.{Turned6, answered, carrier_turned, contested_turned, hears_turned, rebind_turned, release_turned, tick_turned}
 use Rattle.v6_client.specs.Calls.{Hears, IsAnswered}
-use Rattle.v6_client.specs.Reading.{serves}
-use Rattle.v6_client.specs.Taking.{ias_granted}
+use Rattle.v6_client.specs.V6Items.Reading.{serves}
+use Rattle.v6_client.specs.V6Items.Taking.{ias_granted}
 use Rattle.v6_client.specs.Ticks.{tick_row}
 use Rattle.v6_client_laws.proofs.Granting.{keeps_granted}
 use Rattle.v6_client_laws.proofs.KeptOrigins.{grants_origin}

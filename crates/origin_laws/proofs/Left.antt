@@ -10,11 +10,11 @@ use Rattle.v6_options.specs.declared.ia.IaKind.TheVariants.{Na, Pd}
 use Rattle.lease6_text.specs.declared.lease.Item6.{Item6}
 use Rattle.lease6_text.specs.Leases.{IaLeaseContent, Lease6Content}
 use Rattle.lease6_text.specs.LineParts.{is_ia, is_same_kind}
-use Rattle.v6_client.specs.declared.setup.IaAsk.{IaAsk}
-use Rattle.v6_client.specs.declared.states.Cause6.{Cause6}
-use Rattle.v6_client.specs.declared.states.Cause6.TheVariants.{Lapse}
+use Rattle.v6_client.specs.V6Items.declared.asks.IaAsk.{IaAsk}
+use Rattle.v6_client.specs.V6Items.declared.scope.Cause6.{Cause6}
+use Rattle.v6_client.specs.V6Items.declared.scope.Cause6.TheVariants.{Lapse}
 use Rattle.v6_client.specs.Calls.{pruned_lease}
-use Rattle.v6_client.specs.Items.{asked_at, ia_with, is_nonempty, items_at, pruned_ia, pruned_ias, staying, stays_in, thinned, without}
+use Rattle.v6_client.specs.V6Items.Items.{asked_at, ia_with, is_nonempty, items_at, pruned_ia, pruned_ias, staying, stays_in, thinned, without}
 use Rattle.v6_client.specs.Moves.{lease_with, thinned_lease}
 use Rattle.v6_client_laws.proofs.FirstItems.{behind_in, front_in, none_in}
 use Rattle.v6_client_laws.proofs.Leasts.{filter_in, in_cases}

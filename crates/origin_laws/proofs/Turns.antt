@@ -10,7 +10,7 @@ use Rattle.v6_message.specs.Replies.{Content6}
 use Rattle.v6_frames.specs.Spelled.{Sent6}
 use Rattle.lease6_text.specs.Leases.{Lease6Content}
 use Rattle.v6_client.specs.declared.states.Carrier6.TheVariants.{Up}
-use Rattle.v6_client.specs.declared.states.Cause6.TheVariants.{Lapse}
+use Rattle.v6_client.specs.V6Items.declared.scope.Cause6.TheVariants.{Lapse}
 use Rattle.v6_client.specs.declared.states.State6.{State6}
 use Rattle.v6_client.specs.declared.states.State6.TheVariants.{Off}
 use Rattle.v6_client.specs.Answers.{awaited, chosen, counts, has_bytes, is_awaited, is_from}

@@ -73,3 +73,6 @@ completes (status.Transcript line) input old new a b p q tells read wrote answer
 completes status.Unjustified input old new a b p q tells read wrote answer cause = absurd answer
 completes status.TooLong input old new a b p q tells read wrote answer cause = absurd (not_too_long input tells.bytes tells.told tells.in_limit answer.0)
 completes status.NoMemory input old new a b p q tells read wrote answer cause = tt
+
+-- what a replay that was not whole answers
+pub ruleset replay_answers = (refused_answer, stopped_answer)

@@ -49,7 +49,7 @@ pub fn write_transcript<O: Sink>(alloc: Global, settled: Settled, out: &mut O) -
 }
 
 /// Replays the script that the input spells.
-#[tactic(auto, using(text_works::proofs::Refusals::settled_fit, crate::proofs::ReplayAnswers::refused_answer, crate::proofs::ReplayAnswers::stopped_answer, crate::proofs::Replayed::replayed))]
+#[tactic(auto, using(text_works::proofs::Refusals::settled_fit, crate::proofs::ReplayAnswers::replay_answers, crate::proofs::Replayed::replayed))]
 fn replay_input<I: Source, O: Sink>(alloc: Global, input: &mut I, out: &mut O) -> Result<(), Status>
     ensures ok { IfOk result
         (λ _. IsReplayed (I.left input.old) (O.written out.old) (O.written out.new)

@@ -36,20 +36,20 @@ use Rattle.v6_client.specs.Calls.{answer_in, carried_by, carrier_step, dates_in,
 use Rattle.v6_client.specs.Clients.{ClientContent, holds, is_at_end, is_restarting, turn_of}
 use Rattle.v6_client.specs.Hearing.{heard_row}
 use Rattle.v6_client.specs.Inputs.{duplicate_row}
-use Rattle.v6_client.specs.Items.{pruned_ias}
+use Rattle.v6_client.specs.V6Items.Items.{pruned_ias}
 use Rattle.v6_client.specs.Moves as moves6
 use Rattle.v6_client.specs.Moves.{declining_now, given_up, kept_left, lapsed, lease_with, missing, parting_at, thinned_lease}
 use Rattle.v6_client.specs.Runs.{Turned6, answered, carrier_turned, contested_turned, hears_turned, rebind_turned, release_turned, rested, stepped, tick_turned}
-use Rattle.v6_client.specs.Taking.{value_granted, values_granted}
+use Rattle.v6_client.specs.V6Items.Taking.{value_granted, values_granted}
 use Rattle.v6_client.specs.Ticks.{tick_row}
-use Rattle.v6_client.specs.declared.setup.IaAsk.{IaAsk}
+use Rattle.v6_client.specs.V6Items.declared.asks.IaAsk.{IaAsk}
 use Rattle.v6_client.specs.declared.states.Carrier6.{Carrier6}
 use Rattle.v6_client.specs.declared.states.Carrier6.TheVariants.{Up, Down}
-use Rattle.v6_client.specs.declared.states.Cause6.{Cause6}
-use Rattle.v6_client.specs.declared.states.Cause6.TheVariants.{Lapse, Duplicate}
+use Rattle.v6_client.specs.V6Items.declared.scope.Cause6.{Cause6}
+use Rattle.v6_client.specs.V6Items.declared.scope.Cause6.TheVariants.{Lapse, Duplicate}
 use Rattle.v6_client.specs.declared.states.Keep6.{Keep6}
 use Rattle.v6_client.specs.declared.states.Keep6.TheVariants as keep6
-use Rattle.v6_client.specs.declared.states.Parting6.{Parting6}
+use Rattle.v6_client.specs.V6Items.declared.scope.Parting6.{Parting6}
 use Rattle.v6_client.specs.declared.states.Step6.{Step6}
 use Rattle.v6_client.specs.declared.states.Tell6.{Tell6}
 use Rattle.world.specs.StoreCalls.{Reading, Found, Missing, Unread}

@@ -11,8 +11,8 @@ use Rattle.lease6_text.specs.Leases.{IaLeaseContent, Lease6Content}
 use Rattle.lease6_text.specs.LineParts.{is_same_kind}
 use Rattle.settings.specs.declared.dhcp6_conf.IaConf.{IaConf}
 use Rattle.settings.specs.declared.interfaces.Managed.{Managed}
-use Rattle.v6_client.specs.declared.setup.IaAsk.{IaAsk}
-use Rattle.v6_client.specs.Items.{is_live}
+use Rattle.v6_client.specs.V6Items.declared.asks.IaAsk.{IaAsk}
+use Rattle.v6_client.specs.V6Items.Items.{is_live}
 use Rattle.v6_client_laws.proofs.FirstItems.{behind_in, front_in}
 use Rattle.v6_client_laws.proofs.Given.{met}
 use Rattle.evidence.specs.ClientModel.ClientSettings6.{ask_for}

@@ -10,7 +10,7 @@ use Rattle.net_types.specs.declared.interface.IfIndex.{IfIndex}
 use Rattle.prefix_share.specs.Subnets.{subnet_in}
 use Rattle.settings.specs.declared.dhcp6_conf.ShareConf.{ShareConf}
 use Rattle.evidence.specs.ClientModel.WantedRows.{first_address}
-use Rattle.v6_client.specs.declared.setup.IaAsk.{IaAsk}
+use Rattle.v6_client.specs.V6Items.declared.asks.IaAsk.{IaAsk}
 use Rattle.v6_client_laws.proofs.Given.{met}
 use Rattle.audit_words.specs.EvidenceWords.Entries.{Entry}
 use Rattle.audit_words.specs.EvidenceWords.IfaceLives.{now_in}

@@ -10,7 +10,7 @@ use Rattle.lease6_text.specs.Leases.{IaLeaseContent, Lease6Content}
 use Rattle.lease6_text.specs.LineParts.{is_same_kind}
 use Rattle.settings.specs.declared.dhcp6_conf.IaConf.{IaConf}
 use Rattle.settings.specs.declared.interfaces.Managed.{Managed}
-use Rattle.v6_client.specs.Items.{is_live}
+use Rattle.v6_client.specs.V6Items.Items.{is_live}
 use Rattle.audit_words.specs.EvidenceWords.Entries.{Entry}
 use Rattle.audit_words.specs.EvidenceWords.Inputs.{Site}
 use Rattle.kept_judge.specs.declared.standing.Kept6.{Kept6}

@@ -5,7 +5,7 @@ use Rattle.net_types.specs.declared.address.Net.{Net}
 use Rattle.net_types.specs.declared.address.Net6.{Net6}
 use Rattle.net_types.specs.declared.interface.IfIndex.{IfIndex}
 use Rattle.v6_options.specs.declared.ia.IaKind.TheVariants.{Pd}
-use Rattle.v6_client.specs.declared.setup.IaAsk.{IaAsk}
+use Rattle.v6_client.specs.V6Items.declared.asks.IaAsk.{IaAsk}
 use Rattle.audit_words.specs.EvidenceWords.Entries.{Entry}
 use Rattle.audit_words.specs.EvidenceWords.IfaceLives.{now_in}
 use Rattle.audit_words.specs.EvidenceWords.Inputs.{Site}

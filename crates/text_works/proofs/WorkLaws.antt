@@ -157,3 +157,6 @@ completes_work work status.Unjustified input old new a b p q decided serves read
 completes_work work status.TooLong input old new a b p q decided serves read wrote answer cause =
     absurd (not_too_long input serves.bytes serves.told serves.in_limit answer.0)
 completes_work work status.NoMemory input old new a b p q decided serves read wrote answer cause = tt
+
+-- what a work comes to
+pub ruleset works_end = (unread, refused_cause, cut_short, all_given, all_found)

@@ -47,7 +47,7 @@ pub trait TextWork {
 }
 
 /// Reads the input, and writes the text that tells of it.
-#[tactic(auto, using(crate::proofs::WorkLaws::unread, crate::proofs::WorkLaws::refused_cause, crate::proofs::WorkLaws::cut_short, crate::proofs::WorkLaws::all_given, crate::proofs::WorkLaws::all_found))]
+#[tactic(auto, using(crate::proofs::WorkLaws::works_end))]
 fn give<K: TextWork, I: Source, O: Sink>(
     alloc: Global,
     work: &K,

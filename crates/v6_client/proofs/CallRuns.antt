@@ -5,7 +5,7 @@ use Rattle.net_types.proofs.CaseLaws.{split}
 use Rattle.v6_message.specs.declared.kind.ServerKind6.{ServerKind6}
 use Rattle.v6_message.specs.declared.kind.ServerKind6.TheVariants.{Advertise, Reply}
 use Rattle.v6_message.specs.Replies.{Content6}
-use Rattle.v6_client.specs.declared.states.Cause6.TheVariants.{Lapse}
+use Rattle.v6_items.specs.declared.scope.Cause6.TheVariants.{Lapse}
 use Rattle.v6_client.specs.Answers.{counts, learnt}
 use Rattle.v6_client.specs.Calls.{IsAnswered, IsTicked, carried_by, carrier_step, dates_in, due_of, rebind_step, release_step}
 use Rattle.v6_client.specs.Clients.{ClientContent, turn_of}

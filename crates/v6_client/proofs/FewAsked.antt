@@ -9,11 +9,11 @@ use Rattle.v6_message.specs.declared.kind.Kind6.TheVariants as kind
 use Rattle.v6_message.specs.declared.said.IaAsked.{IaAsked}
 use Rattle.v6_message.specs.Requests.{AskedContent, asked_content}
 use Rattle.lease6_text.specs.Leases.{Lease6Content}
-use Rattle.v6_client.specs.declared.setup.IaAsk.{IaAsk}
-use Rattle.v6_client.specs.declared.states.Scope6.{Scope6}
-use Rattle.v6_client.specs.declared.states.Scope6.TheVariants as scope
-use Rattle.v6_client.specs.Asking.{ia_asked, ia_declined, ia_released, ia_solicited, named_with, nets_gone, nets_in}
-use Rattle.v6_client.specs.Items.{asked_at, ias_of, items_at}
+use Rattle.v6_items.specs.declared.asks.IaAsk.{IaAsk}
+use Rattle.v6_items.specs.declared.scope.Scope6.{Scope6}
+use Rattle.v6_items.specs.declared.scope.Scope6.TheVariants as scope
+use Rattle.v6_items.specs.Asking.{ia_asked, ia_declined, ia_released, ia_solicited, named_with, nets_gone, nets_in}
+use Rattle.v6_items.specs.Items.{asked_at, ias_of, items_at}
 use Rattle.v6_client.specs.Saying.{ias_said}
 
 named_few : (kind : IaKind) (iaid : ℕ) (nets : List Net6) → length (named_with kind iaid nets) ≤ 1

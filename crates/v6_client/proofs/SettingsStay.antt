@@ -8,7 +8,7 @@ use Rattle.v6_message.specs.declared.kind.ServerKind6.TheVariants.{Advertise, Re
 use Rattle.v6_message.specs.Replies.{Content6}
 use Rattle.v6_client.specs.declared.states.Carrier6.{Carrier6}
 use Rattle.v6_client.specs.declared.states.Carrier6.TheVariants.{Up, Down}
-use Rattle.v6_client.specs.declared.states.Cause6.TheVariants.{Lapse, Duplicate}
+use Rattle.v6_items.specs.declared.scope.Cause6.TheVariants.{Lapse, Duplicate}
 use Rattle.v6_client.specs.declared.states.Tell6.{Tell6}
 use Rattle.v6_client.specs.Answers.{advertise_answer, counts, learnt}
 use Rattle.v6_client.specs.Calls.{due_of, stands_at}

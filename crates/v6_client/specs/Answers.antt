@@ -6,18 +6,18 @@ use Rattle.v6_options.specs.Ias.{ias_in}
 use Rattle.v6_message.specs.Replies.{Content6}
 use Rattle.lease6_text.specs.Leases.{Lease6Content}
 use Rattle.v6_client.specs.declared.answers.TheConstants.{LEAST_SOL_MAX, MOST_SOL_MAX}
-use Rattle.v6_client.specs.declared.setup.IaAsk.{IaAsk}
+use Rattle.v6_items.specs.declared.asks.IaAsk.{IaAsk}
 use Rattle.v6_client.specs.declared.states.Answer6.{Answer6}
 use Rattle.v6_client.specs.declared.states.Answer6.TheVariants as answer
 use Rattle.v6_client.specs.declared.states.State6.{State6}
 use Rattle.v6_client.specs.declared.states.State6.TheVariants.{Off, Waiting, Soliciting, Requesting, Bound, Renewing, Rebinding, Restarting, Declining}
-use Rattle.v6_client.specs.declared.times.TheConstants.{SECOND}
-use Rattle.v6_client.specs.Asking.{ias_offered}
+use Rattle.v6_items.specs.declared.times.TheConstants.{SECOND}
+use Rattle.v6_items.specs.Asking.{ias_offered}
 use Rattle.v6_client.specs.Clients.{ClientContent, PleaContent, met_scope}
 use Rattle.v6_client.specs.Hearing.{is_kept_offer}
-use Rattle.v6_client.specs.Reading.{serves}
+use Rattle.v6_items.specs.Reading.{serves}
 use Rattle.v6_client.specs.Saying.{lease_server, plea_server}
-use Rattle.v6_client.specs.Taking.{Meeting, lease_granted}
+use Rattle.v6_items.specs.Taking.{Meeting, lease_granted}
 
 -- ---- which messages count
 

@@ -5,14 +5,14 @@ use Rattle.v6_message.specs.declared.kind.ServerKind6.{ServerKind6}
 use Rattle.v6_message.specs.declared.kind.ServerKind6.TheVariants.{Advertise, Reply}
 use Rattle.v6_message.specs.Replies.{Content6}
 use Rattle.lease6_text.specs.Leases.{Lease6Content}
-use Rattle.v6_client.specs.declared.setup.IaAsk.{IaAsk}
+use Rattle.v6_items.specs.declared.asks.IaAsk.{IaAsk}
 use Rattle.v6_client.specs.declared.states.Answer6.{Answer6}
 use Rattle.v6_client.specs.declared.states.Carrier6.{Carrier6}
 use Rattle.v6_client.specs.declared.states.Carrier6.TheVariants.{Up, Down}
-use Rattle.v6_client.specs.declared.states.Cause6.TheVariants.{Lapse, Duplicate}
-use Rattle.v6_client.specs.declared.states.Dates6.{Dates6}
-use Rattle.v6_client.specs.declared.states.Parting6.{Parting6}
-use Rattle.v6_client.specs.declared.states.Scope6.TheVariants as scope
+use Rattle.v6_items.specs.declared.scope.Cause6.TheVariants.{Lapse, Duplicate}
+use Rattle.v6_items.specs.declared.scope.Dates6.{Dates6}
+use Rattle.v6_items.specs.declared.scope.Parting6.{Parting6}
+use Rattle.v6_items.specs.declared.scope.Scope6.TheVariants as scope
 use Rattle.v6_client.specs.declared.states.Step6.{Step6}
 use Rattle.v6_client.specs.declared.states.Tell6.{Tell6}
 use Rattle.v6_client.specs.Answers.{advertise_answer, advertised, counts, fresh_of, is_taken, learnt, reply_answer}
@@ -20,7 +20,7 @@ use Rattle.v6_client.specs.Clients.{ClientContent, is_declining, is_off, scope_o
 use Rattle.v6_client.specs.Due.{due_row}
 use Rattle.v6_client.specs.Hearing.{heard_row}
 use Rattle.v6_client.specs.Inputs.{begin_row, duplicate_row, off_row, rebind_row, release_row}
-use Rattle.v6_client.specs.Items.{dates_of, ias_of, parting_of, pruned_ias}
+use Rattle.v6_items.specs.Items.{dates_of, ias_of, parting_of, pruned_ias}
 use Rattle.v6_client.specs.Moves.{IsQuiet, IsStep6, OutContent, given_up, lapsed, lease_with, parting_at}
 use Rattle.v6_client.specs.Ticks.{tick_row}
 

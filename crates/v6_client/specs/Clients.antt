@@ -6,8 +6,8 @@ use Rattle.lease6_text.specs.Leases.{Lease6Content, lease6_content}
 use Rattle.v6_client.specs.declared.leases.Leases6.{Leases6}
 use Rattle.v6_client.specs.declared.leases.Plea6.{Plea6}
 use Rattle.v6_client.specs.declared.setup.Set6.{Set6}
-use Rattle.v6_client.specs.declared.states.Scope6.{Scope6}
-use Rattle.v6_client.specs.declared.states.Scope6.TheVariants as scope
+use Rattle.v6_items.specs.declared.scope.Scope6.{Scope6}
+use Rattle.v6_items.specs.declared.scope.Scope6.TheVariants as scope
 use Rattle.v6_client.specs.declared.states.State6.{State6}
 use Rattle.v6_client.specs.declared.states.State6.TheVariants.{Off, Waiting, Soliciting, Requesting, Bound, Renewing, Rebinding, Restarting, Declining}
 use Rattle.v6_client.specs.declared.turn.Turn6.{Turn6}

@@ -1,9 +1,9 @@
 -- When a client acts next.
 use Rattle.std.specs.Prelude.{ℕ, min, Option, Some, None}
-use Rattle.v6_client.specs.declared.states.Dates6.{Dates6}
+use Rattle.v6_items.specs.declared.scope.Dates6.{Dates6}
 use Rattle.v6_client.specs.declared.states.State6.{State6}
 use Rattle.v6_client.specs.declared.states.State6.TheVariants.{Off, Waiting, Soliciting, Requesting, Bound, Renewing, Rebinding, Restarting, Declining}
-use Rattle.v6_client.specs.Times.{earlier}
+use Rattle.v6_items.specs.Times.{earlier}
 
 -- its message again, T1 where it has no exchange, T2 where its own server is asked, and the end of an item
 abbrev pub due_row : Dates6 → State6 → Option ℕ

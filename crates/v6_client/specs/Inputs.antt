@@ -3,7 +3,7 @@ use Rattle.std.specs.Prelude.{Bool, true, false, Some, if◌then◌else◌}
 use Rattle.v6_message.specs.declared.kind.Kind6.TheVariants as kind
 use Rattle.v6_client.specs.declared.states.Keep6.TheVariants.{Clears}
 use Rattle.v6_client.specs.declared.states.News6.TheVariants as news
-use Rattle.v6_client.specs.declared.states.Parting6.{Parting6}
+use Rattle.v6_items.specs.declared.scope.Parting6.{Parting6}
 use Rattle.v6_client.specs.declared.states.State6.{State6}
 use Rattle.v6_client.specs.declared.states.State6.TheVariants.{Off, Waiting, Soliciting, Requesting, Bound, Renewing, Rebinding, Restarting, Declining}
 use Rattle.v6_client.specs.declared.states.Step6.{Step6}

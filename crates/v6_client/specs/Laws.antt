@@ -7,14 +7,14 @@ use Rattle.v6_message.specs.Replies.{Content6}
 use Rattle.lease6_text.specs.Leases.{Lease6Content}
 use Rattle.v6_client.specs.declared.client.Out6.{Out6}
 use Rattle.v6_client.specs.declared.states.Carrier6.{Carrier6}
-use Rattle.v6_client.specs.declared.states.Cause6.{Cause6}
-use Rattle.v6_client.specs.declared.states.Cause6.TheVariants.{Lapse}
-use Rattle.v6_client.specs.declared.states.Scope6.TheVariants as scope
+use Rattle.v6_items.specs.declared.scope.Cause6.{Cause6}
+use Rattle.v6_items.specs.declared.scope.Cause6.TheVariants.{Lapse}
+use Rattle.v6_items.specs.declared.scope.Scope6.TheVariants as scope
 use Rattle.v6_client.specs.declared.states.Step6.{Step6}
 use Rattle.v6_client.specs.Answers.{awaited, counts, is_taken, learnt}
 use Rattle.v6_client.specs.Calls.{Hears, IsCarried, IsTicked, fresh_in, pruned_lease}
 use Rattle.v6_client.specs.Clients.{ClientContent, holds}
-use Rattle.v6_client.specs.Items.{goes_of, ias_of}
+use Rattle.v6_items.specs.Items.{goes_of, ias_of}
 use Rattle.v6_client.specs.Moves.{IsQuiet, IsStep6, OutContent, thinned_lease}
 use Rattle.v6_client.specs.Rests.{Ticks}
 

@@ -1,24 +1,17 @@
 pub mod Settings
 pub mod Times
 pub mod Exchanges
-pub mod Items
 pub mod Steps
 pub mod Due
 pub mod Ticks
 pub mod Hearing
 pub mod Inputs
-pub mod Reading
-pub mod Renewing
-pub mod Taking
-pub mod Meetings
-pub mod Asking
 pub mod Clients
 pub mod Saying
 pub mod Moves
 pub mod Answers
 pub mod Calls
 pub mod Rests
-pub mod Bounds
 pub mod Sound
 pub mod Laws
 pub mod Runs
@@ -29,3 +22,4 @@ pub mod RunsStay
 pub mod Origins
 pub use Rattle.lease6_text.specs as Lease6Text
 pub use Rattle.v6_message.specs as V6Message
+pub use Rattle.v6_items.specs as V6Items

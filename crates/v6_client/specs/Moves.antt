@@ -3,20 +3,20 @@ use Rattle.std.specs.Prelude.{◌≡◌, ℕ, Bool, true, false, not, ◌&&◌, 
 use Rattle.net_types.specs.declared.address.Ip6.{Ip6}
 use Rattle.lease6_text.specs.Leases.{IaLeaseContent, Lease6Content, lease6_content}
 use Rattle.v6_client.specs.declared.client.Out6.{Out6}
-use Rattle.v6_client.specs.declared.setup.IaAsk.{IaAsk}
-use Rattle.v6_client.specs.declared.states.Cause6.{Cause6}
-use Rattle.v6_client.specs.declared.states.Cause6.TheVariants.{Lapse, Duplicate}
+use Rattle.v6_items.specs.declared.asks.IaAsk.{IaAsk}
+use Rattle.v6_items.specs.declared.scope.Cause6.{Cause6}
+use Rattle.v6_items.specs.declared.scope.Cause6.TheVariants.{Lapse, Duplicate}
 use Rattle.v6_client.specs.declared.states.Keep6.{Keep6}
 use Rattle.v6_client.specs.declared.states.Keep6.TheVariants.{Stays, Clears, Takes}
 use Rattle.v6_client.specs.declared.states.News6.{News6}
 use Rattle.v6_client.specs.declared.states.News6.TheVariants as news
-use Rattle.v6_client.specs.declared.states.Parting6.{Parting6}
-use Rattle.v6_client.specs.declared.states.Scope6.TheVariants as scope
+use Rattle.v6_items.specs.declared.scope.Parting6.{Parting6}
+use Rattle.v6_items.specs.declared.scope.Scope6.TheVariants as scope
 use Rattle.v6_client.specs.declared.states.State6.{State6}
 use Rattle.v6_client.specs.declared.states.Step6.{Step6}
-use Rattle.v6_client.specs.Asking.{ias_asked, ias_lapsed}
+use Rattle.v6_items.specs.Asking.{ias_asked, ias_lapsed}
 use Rattle.v6_client.specs.Clients.{ClientContent, PleaContent, holds, is_at_end, is_declining, is_restarting, pleads, scope_of}
-use Rattle.v6_client.specs.Items.{ias_of, parting_of, without}
+use Rattle.v6_items.specs.Items.{ias_of, parting_of, without}
 use Rattle.v6_client.specs.Saying.{SpokenContent, spoken_by, spoken_content}
 
 pub record OutContent : Type 0 where

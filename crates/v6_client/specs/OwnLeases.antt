@@ -5,13 +5,13 @@ use Rattle.net_types.specs.declared.address.Ip6.{Ip6}
 use Rattle.v6_message.specs.Replies.{Content6}
 use Rattle.lease6_text.specs.Leases.{IaLeaseContent, Lease6Content}
 use Rattle.lease6_text.specs.LineParts.{is_ia}
-use Rattle.v6_client.specs.declared.setup.IaAsk.{IaAsk}
+use Rattle.v6_items.specs.declared.asks.IaAsk.{IaAsk}
 use Rattle.v6_client.specs.declared.states.Carrier6.{Carrier6}
 use Rattle.v6_client.specs.declared.states.Tell6.{Tell6}
-use Rattle.v6_client.specs.Bounds.{ask_key}
+use Rattle.v6_items.specs.Bounds.{ask_key}
 use Rattle.v6_client.specs.Calls.{Hears, IsCarried, IsContested, IsTicked, fresh_in, rebind_step, release_step}
 use Rattle.v6_client.specs.Clients.{ClientContent, client_made, held_of, holds}
-use Rattle.v6_client.specs.Items.{ias_of}
+use Rattle.v6_items.specs.Items.{ias_of}
 use Rattle.v6_client.specs.Moves.{IsStep6, OutContent}
 use Rattle.v6_client.specs.Settings.{SettingsContent}
 

@@ -5,12 +5,12 @@ use Rattle.v6_message.specs.declared.kind.Kind6.TheVariants as kind
 use Rattle.v6_message.specs.declared.said.Said6.{Said6}
 use Rattle.v6_message.specs.Requests.{AskedContent, asked_content}
 use Rattle.lease6_text.specs.Leases.{Lease6Content}
-use Rattle.v6_client.specs.declared.setup.IaAsk.{IaAsk}
+use Rattle.v6_items.specs.declared.asks.IaAsk.{IaAsk}
 use Rattle.v6_client.specs.declared.states.Say6.{Say6}
-use Rattle.v6_client.specs.declared.states.Scope6.{Scope6}
-use Rattle.v6_client.specs.Asking.{ia_solicited, ias_asked, ias_declined, ias_released}
+use Rattle.v6_items.specs.declared.scope.Scope6.{Scope6}
+use Rattle.v6_items.specs.Asking.{ia_solicited, ias_asked, ias_declined, ias_released}
 use Rattle.v6_client.specs.Clients.{PleaContent}
-use Rattle.v6_client.specs.Items.{ias_of}
+use Rattle.v6_items.specs.Items.{ias_of}
 
 -- a message as it is handed out
 pub record SpokenContent : Type 0 where

@@ -1,6 +1,6 @@
 -- The settings of a client, without where they lie in memory.
 use Rattle.std.specs.Prelude.{ℕ, List}
-use Rattle.v6_client.specs.declared.setup.IaAsk.{IaAsk}
+use Rattle.v6_items.specs.declared.asks.IaAsk.{IaAsk}
 use Rattle.v6_client.specs.declared.setup.Set6.{Set6}
 use Rattle.v6_client.specs.declared.setup.Site6.{Site6}
 

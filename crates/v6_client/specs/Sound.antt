@@ -2,7 +2,7 @@
 use Rattle.std.specs.Prelude.{◌≤◌, IfSome}
 use Rattle.net_types.specs.NameText.{FitsName}
 use Rattle.lease6_text.specs.Bounds.{FitsLease6}
-use Rattle.v6_client.specs.Bounds.{FitsAsks}
+use Rattle.v6_items.specs.Bounds.{FitsAsks}
 use Rattle.v6_client.specs.Clients.{ClientContent}
 
 pub record IsSound (c : ClientContent) : Type 0 where

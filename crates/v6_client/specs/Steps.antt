@@ -9,7 +9,7 @@ use Rattle.v6_client.specs.declared.states.Keep6.{Keep6}
 use Rattle.v6_client.specs.declared.states.Keep6.TheVariants.{Stays, Clears, Takes}
 use Rattle.v6_client.specs.declared.states.News6.{News6}
 use Rattle.v6_client.specs.declared.states.News6.TheVariants as news
-use Rattle.v6_client.specs.declared.states.Parting6.{Parting6}
+use Rattle.v6_items.specs.declared.scope.Parting6.{Parting6}
 use Rattle.v6_client.specs.declared.states.State6.{State6}
 use Rattle.v6_client.specs.declared.states.State6.TheVariants.{Waiting, Soliciting, Requesting, Bound, Renewing, Rebinding, Restarting, Declining}
 use Rattle.v6_client.specs.declared.states.Step6.{Step6}

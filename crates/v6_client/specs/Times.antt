@@ -2,7 +2,8 @@
 use Rattle.std.specs.Prelude.{ℕ, ◌+◌, ◌-◌, ◌*◌, ◌/◌, ◌≤◌, min, Option, Some, None, ◌==◌, if◌then◌else◌}
 use Rattle.net_types.specs.Moments.{IsMoment}
 use Rattle.machine.specs.Draw.{draw_of}
-use Rattle.v6_client.specs.declared.times.TheConstants.{SECOND, FOREVER, DELAY_SPREAD}
+use Rattle.v6_client.specs.declared.times.TheConstants.{DELAY_SPREAD}
+use Rattle.v6_items.specs.declared.times.TheConstants.{SECOND, FOREVER}
 use Rattle.v6_client.specs.declared.turn.Turn6.{Turn6}
 
 -- the limits within which turns come
@@ -17,12 +18,3 @@ first_delay turn = if turn.site.flags.nodelay then 1 else draw_of turn.salt turn
 -- the hundredths of a second since a moment, as far as the field of a message goes (RFC 8415, section 21.9)
 abbrev pub elapsed : (began at : ℕ) → ℕ
 elapsed began at = min ((at - began) / 10) 65535
-
-abbrev pub earlier : Option ℕ → Option ℕ → Option ℕ
-earlier None second = second
-earlier (Some first) None = Some first
-earlier (Some first) (Some second) = Some (min first second)
-
--- all ones stand for ever (RFC 8415, section 7.7)
-abbrev pub moment_after : (at seconds : ℕ) → Option ℕ
-moment_after at seconds = if seconds == FOREVER then None else Some (at + SECOND * seconds)

@@ -7,8 +7,8 @@ ghost use Rattle.lease6_text.specs.Leases.{lease6_content};
 ghost use Rattle.v6_client.specs.Answers as answers;
 
 use crate::states::{Answer6, State6};
-use crate::times::SECOND;
 use lease6_text::Lease6;
+use v6_items::SECOND;
 use v6_options::Duid;
 
 /// The least seconds that a server may tell as the longest time between two SOLICITs, and the most (RFC 8415, section

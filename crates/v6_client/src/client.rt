@@ -7,11 +7,11 @@ ghost use Rattle.v6_message.specs.Shown.{message_shown};
 ghost use Rattle.net_types.specs.NameText.{FitsName};
 ghost use Rattle.lease6_text.specs.Bounds.{FitsLease6};
 ghost use Rattle.lease6_text.specs.Leases.{lease6_content};
-ghost use Rattle.v6_client.specs.Bounds.{FitsAsks};
+ghost use Rattle.v6_items.specs.Bounds.{FitsAsks};
 ghost use Rattle.v6_client.specs.Answers as answers;
 ghost use Rattle.v6_client.specs.Calls as calls;
 ghost use Rattle.v6_client.specs.Clients.{client_made, held_of, plea_content, turn_of};
-ghost use Rattle.v6_client.specs.Items as own;
+ghost use Rattle.v6_items.specs.Items as own;
 ghost use Rattle.v6_client.specs.Moves.{IsStep6, declining_now, given_up, lapsed, missing, out_content};
 ghost use Rattle.v6_client.specs.declared.states.Carrier6.TheVariants.{Up};
 ghost use Rattle.v6_client.specs.Rests.{IsQuietAnswer, Ticks, tick_rests};
@@ -22,19 +22,13 @@ use crate::answers::{
     awaited, chosen, has_bytes, is_awaited, is_from, reply_answer, sol_max_with, takes_offers,
     takes_replies,
 };
-use crate::asking::ias_offered;
 use crate::hearing::{heard_row, is_kept_offer};
 use crate::holding::{holds, is_at_end, is_declining, is_off, is_restarting, met_scope, scope_of};
 use crate::inputs::{begin_row, duplicate_row, off_row, rebind_row, release_row};
-use crate::items::parting_of;
-use crate::leases::{Leases6, Plea6, dates_of, ias_of};
-use crate::reading::serves;
+use crate::leases::{Leases6, Plea6};
 use crate::saying::spoken_by;
-use crate::setup::{IaAsk, Set6, Site6};
-use crate::states::{
-    Answer6, Carrier6, Cause6, Dates6, News6, Parting6, Scope6, State6, Step6, Tell6,
-};
-use crate::taking::{Meeting6, lease_granted};
+use crate::setup::{Set6, Site6};
+use crate::states::{Answer6, Carrier6, News6, State6, Step6, Tell6};
 use crate::ticking::{due_row, tick_row};
 use crate::turn::Turn6;
 use lease6_text::Lease6;
@@ -42,6 +36,10 @@ use machine::{Machine, clamp_moment, has_come};
 use net_types::{Ip6, NoMemory};
 use std::alloc::Global;
 use std::marker::Model;
+use v6_items::{
+    Cause6, Dates6, IaAsk, Meeting6, Parting6, Scope6, dates_of, ias_of, ias_offered,
+    lease_granted, parting_of, serves,
+};
 use v6_message::{Msg6, Said6, ServerKind6};
 use v6_options::Duid;
 use v6_retrans::parameters::SOL_MAX_RT;

@@ -3,7 +3,8 @@
 ghost use Rattle.std.specs.Prelude.{◌≡◌};
 ghost use Rattle.v6_client.specs.Clients as clients;
 
-use crate::states::{Scope6, State6};
+use crate::states::State6;
+use v6_items::Scope6;
 
 /// Which items of the kept lease are the client's own.
 pub(crate) fn scope_of(state: State6) -> Scope6

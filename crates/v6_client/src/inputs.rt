@@ -5,12 +5,13 @@ ghost use Rattle.v6_client.specs.Inputs as inputs;
 ghost use Rattle.v6_client.specs.Times.{FitsTurn};
 
 use crate::exchange::new_xid;
-use crate::states::{Keep6, News6, Parting6, Say6, State6, Step6, Tell6};
+use crate::states::{Keep6, News6, Say6, State6, Step6, Tell6};
 use crate::steps::{
     declines, expires, goes_to, is_last, keep_by, rebinds, restarts, rests, tells_parting,
     to_waiting,
 };
 use crate::turn::Turn6;
+use v6_items::Parting6;
 use v6_message::Kind6;
 
 /// The client begins. `parting` is of the items of the kept lease that are valid, and `stands` says whether they are

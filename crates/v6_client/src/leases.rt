@@ -4,11 +4,7 @@
 ghost use Rattle.std.specs.Prelude.{◌≡◌, ◌≤◌, length, map, true, option_map, IfOk, OnErr, OnOk};
 ghost use Rattle.v6_message.specs.Requests.{asked_content};
 ghost use Rattle.lease6_text.specs.Leases.{ias_content, lease6_content};
-ghost use Rattle.v6_client.specs.Items as own;
 
-use crate::items::lapse_in;
-use crate::setup::IaAsk;
-use crate::states::{Dates6, Scope6};
 use lease6_text::{IaLease, Lease6, copied_values};
 use net_types::NoMemory;
 use std::alloc::{AllocError, Global};
@@ -29,34 +25,6 @@ pub(crate) struct Leases6 {
     /// The lease that is kept for the next start; where items are held it is the one that is held.
     pub kept: Option<Lease6>,
     pub plea: Option<Plea6>,
-}
-
-/// The IAs of a lease that there may be.
-pub(crate) fn ias_of(kept: &Option<Lease6>) -> &[IaLease]
-    ensures { ias_content result.now ≡ own.ias_of (option_map lease6_content kept.now) }
-{
-    match kept {
-        Some(lease) => &lease.ias,
-        None => &[],
-    }
-}
-
-/// The moments of a lease that there may be.
-pub(crate) fn dates_of(scope: Scope6, kept: &Option<Lease6>, asks: &[IaAsk]) -> Dates6
-    ensures { result ≡ own.dates_of scope (option_map lease6_content kept.now) asks.now }
-{
-    match kept {
-        Some(lease) => Dates6 {
-            t1: lease.t1,
-            t2: lease.t2,
-            lapse: lapse_in(scope, &lease.ias, asks),
-        },
-        None => Dates6 {
-            t1: None,
-            t2: None,
-            lapse: None,
-        },
-    }
 }
 
 /// The DUID of these bytes.

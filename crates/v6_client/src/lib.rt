@@ -3,25 +3,20 @@
 #![tactic(auto)]
 
 mod answers;
-mod asking;
 mod client;
 mod constants;
 mod exchange;
 mod hearing;
 mod holding;
 mod inputs;
-mod items;
 mod keeping;
 mod laws;
 mod leases;
 mod parting;
-mod reading;
-mod renewing;
 mod saying;
 mod setup;
 mod states;
 mod steps;
-mod taking;
 mod ticking;
 mod times;
 mod turn;
@@ -34,13 +29,8 @@ pub use client::{
 };
 pub use constants::times_are_those_of_rfc_8415;
 pub use exchange::Exchange6;
-pub use items::is_same_kind;
 pub use laws::{calls_run6, keeps_settings6, quiet_steps_keep6};
 pub use leases::Plea6;
-pub use reading::{ia_for, is_for, is_readable, is_unbound, read_item, saids_of, serves};
-pub use renewing::Spans6;
-pub use setup::{IaAsk, Set6, Site6};
-pub use states::{
-    Answer6, Carrier6, Cause6, Dates6, Keep6, News6, Parting6, Say6, Scope6, State6, Step6, Tell6,
-};
+pub use setup::{Set6, Site6};
+pub use states::{Answer6, Carrier6, Keep6, News6, Say6, State6, Step6, Tell6};
 pub use turn::Turn6;

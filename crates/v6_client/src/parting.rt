@@ -4,17 +4,16 @@ ghost use Rattle.std.specs.Prelude.{◌≡◌, ◌≤◌, length, option_map, If
 ghost use Rattle.lease6_text.specs.Leases.{ias_content, lease6_content};
 ghost use Rattle.v6_client.specs.Calls.{pruned_lease};
 ghost use Rattle.v6_client.specs.Clients.{kept_in, plea_content, plea_in};
-ghost use Rattle.v6_client.specs.Items as own;
+ghost use Rattle.v6_items.specs.Items as own;
 ghost use Rattle.v6_client.specs.Moves as moves;
 
-use crate::asking::{ias_asked, ias_lapsed};
-use crate::items::{pruned_ias, without};
-use crate::leases::{Leases6, Plea6, duid_copied, ias_of};
-use crate::setup::IaAsk;
-use crate::states::{Cause6, Parting6, Scope6};
+use crate::leases::{Leases6, Plea6, duid_copied};
 use lease6_text::{IaLease, Lease6};
 use net_types::NoMemory;
 use std::alloc::Global;
+use v6_items::{
+    Cause6, IaAsk, Parting6, Scope6, ias_asked, ias_lapsed, ias_of, pruned_ias, without,
+};
 
 /// The lease without the items that go.
 fn thin(alloc: Global, cause: Cause6, kept: &mut Option<Lease6>) -> Result<(), NoMemory>

@@ -6,13 +6,14 @@ ghost use Rattle.v6_client.specs.Clients.{kept_in, plea_content, plea_in};
 ghost use Rattle.lease6_text.specs.Leases.{lease6_content};
 ghost use Rattle.v6_client.specs.Saying as saying;
 
-use crate::asking::{ias_asked, ias_copied, ias_declined, ias_released, ias_solicited};
-use crate::leases::{Leases6, Plea6, duid_copied, ias_of};
-use crate::setup::IaAsk;
-use crate::states::{Say6, Scope6};
+use crate::leases::{Leases6, Plea6, duid_copied};
+use crate::states::Say6;
 use lease6_text::Lease6;
 use net_types::NoMemory;
 use std::alloc::Global;
+use v6_items::{
+    IaAsk, Scope6, ias_asked, ias_copied, ias_declined, ias_of, ias_released, ias_solicited,
+};
 use v6_message::{IaAsked, Kind6, Said6};
 use v6_options::Duid;
 

@@ -2,16 +2,8 @@
 
 use net_types::IfSpec;
 use settings::Flags;
-use v6_options::{Duid, IaKind};
-
-/// An IA that is asked for (RFC 8415, section 12).
-#[derive(Clone, Copy, PartialEq, Eq)]
-pub struct IaAsk {
-    pub kind: IaKind,
-    pub iaid: u32,
-    /// The length of the prefix that is wished for, in bits; 0 where none is.
-    pub hint: u8,
-}
+use v6_items::IaAsk;
+use v6_options::Duid;
 
 /// The settings of a client.
 #[derive(Drop)]

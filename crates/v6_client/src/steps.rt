@@ -6,9 +6,10 @@ ghost use Rattle.v6_client.specs.Steps as steps;
 ghost use Rattle.v6_client.specs.Times.{FitsTurn};
 
 use crate::exchange::{Exchange6, begun, solicit_parameters};
-use crate::states::{Keep6, News6, Parting6, Say6, State6, Step6};
+use crate::states::{Keep6, News6, Say6, State6, Step6};
 use crate::times::{RESTART_TIME, elapsed, first_delay};
 use crate::turn::Turn6;
+use v6_items::Parting6;
 use v6_message::Kind6;
 use v6_retrans::parameters::{DECLINE, REBIND, RENEW, REQUEST};
 use v6_retrans::{Parameters, draw_positive_rand, draw_rand};

@@ -6,15 +6,15 @@ ghost use Rattle.v6_client.specs.Ticks as ticks;
 ghost use Rattle.v6_client.specs.Times.{FitsTurn};
 
 use crate::exchange::{Exchange6, solicit_parameters};
-use crate::states::{Dates6, Parting6, State6, Step6};
+use crate::states::{State6, Step6};
 use crate::steps::{
     declining, emptied, expires, is_last, keep_by, rebinding, rebinds, renewing, renews,
     requesting, requests, restarting, rests, soliciting, solicits, tells_parting, to_waiting,
     unanswered,
 };
-use crate::times::earlier;
 use crate::turn::Turn6;
 use machine::has_come;
+use v6_items::{Dates6, Parting6, earlier};
 use v6_retrans::parameters::{DECLINE, REBIND, RENEW, REQUEST};
 
 /// The moment at which a client acts next.

@@ -8,14 +8,14 @@ use Rattle.machine.specs.Moment.{is_due}
 use Rattle.lease6_text.specs.declared.lease.Item6.{Item6}
 use Rattle.lease6_text.specs.Leases.{IaLeaseContent, Lease6Content}
 use Rattle.v6_client.specs.declared.exchange.Exchange6.{Exchange6}
-use Rattle.v6_client.specs.declared.setup.IaAsk.{IaAsk}
-use Rattle.v6_client.specs.declared.states.Cause6.TheVariants.{Lapse}
-use Rattle.v6_client.specs.declared.states.Dates6.{Dates6}
+use Rattle.v6_items.specs.declared.asks.IaAsk.{IaAsk}
+use Rattle.v6_items.specs.declared.scope.Cause6.TheVariants.{Lapse}
+use Rattle.v6_items.specs.declared.scope.Dates6.{Dates6}
 use Rattle.v6_client.specs.declared.states.Keep6.TheVariants.{Stays}
 use Rattle.v6_client.specs.declared.states.News6.TheVariants as news
-use Rattle.v6_client.specs.declared.states.Parting6.{Parting6}
-use Rattle.v6_client.specs.declared.states.Scope6.{Scope6}
-use Rattle.v6_client.specs.declared.states.Scope6.TheVariants as scope
+use Rattle.v6_items.specs.declared.scope.Parting6.{Parting6}
+use Rattle.v6_items.specs.declared.scope.Scope6.{Scope6}
+use Rattle.v6_items.specs.declared.scope.Scope6.TheVariants as scope
 use Rattle.v6_client.specs.declared.states.State6.{State6}
 use Rattle.v6_client.specs.declared.states.State6.TheVariants.{Off, Waiting, Soliciting, Requesting, Bound, Renewing, Rebinding, Restarting, Declining}
 use Rattle.v6_client.specs.declared.states.Step6.{Step6}
@@ -24,11 +24,11 @@ use Rattle.v6_client.specs.Calls.{dates_in, due_of}
 use Rattle.v6_client.specs.Clients.{ClientContent, holds, is_at_end, scope_of, turn_of}
 use Rattle.v6_client.specs.Due.{due_row}
 use Rattle.v6_client.specs.Exchanges.{is_again_due}
-use Rattle.v6_client.specs.Items.{asked_at, dates_of, goes_of, ias_of, is_in, lapse_in, lapse_of, parting_of, stays_in}
+use Rattle.v6_items.specs.Items.{asked_at, dates_of, goes_of, ias_of, is_in, lapse_in, lapse_of, parting_of, stays_in}
 use Rattle.v6_client.specs.Moves.{parting_at}
-use Rattle.v6_client.specs.Taking.{t1_of, t2_of}
+use Rattle.v6_items.specs.Taking.{t1_of, t2_of}
 use Rattle.v6_client.specs.Ticks.{restarting_tick, tick_row}
-use Rattle.v6_client.specs.Times.{earlier}
+use Rattle.v6_items.specs.Times.{earlier}
 use Rattle.v6_client_laws.specs.DueRows.{FitsAt, HasCome, IsOver, IsOwn, LooksAtMoments, RestartFits, RestsBefore, RestsElsewhere, RowFits, WakesInTime, state_later}
 use Rattle.v6_client_laws.specs.Least.{LeastOf}
 use Rattle.v6_client_laws.proofs.Given.{Met, met}

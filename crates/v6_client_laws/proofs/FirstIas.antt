@@ -9,8 +9,8 @@ use Rattle.v6_options.specs.declared.ia.IaKind.{IaKind}
 use Rattle.v6_options.specs.declared.ia.IaKind.TheVariants.{Na, Pd}
 use Rattle.v6_options.specs.Ias.{IaContent}
 use Rattle.lease6_text.specs.LineParts.{is_same_kind}
-use Rattle.v6_client.specs.declared.setup.IaAsk.{IaAsk}
-use Rattle.v6_client.specs.Reading.{ia_for, is_for}
+use Rattle.v6_items.specs.declared.asks.IaAsk.{IaAsk}
+use Rattle.v6_items.specs.Reading.{ia_for, is_for}
 use Rattle.v6_client_laws.specs.GivenItems.{IsFirstOf, IsOf}
 
 kind_decides : (one other : IaKind) → Decides (is_same_kind one other) (one ≡ other)

@@ -5,7 +5,7 @@ use Rattle.std.proofs.lemmas.Bool.{both_ways, false_from_ne_true}
 use Rattle.net_types.proofs.CaseLaws.{split}
 use Rattle.v6_options.specs.declared.ia.IaKind.{IaKind}
 use Rattle.v6_options.specs.declared.ia.ItemSaid.{ItemSaid}
-use Rattle.v6_client.specs.Reading.{cleared, is_read, read_item}
+use Rattle.v6_items.specs.Reading.{cleared, is_read, read_item}
 use Rattle.v6_client_laws.specs.GivenItems as given
 use Rattle.v6_client_laws.specs.GivenItems.{MayBeHeld, SoManyMay}
 use Rattle.v6_client_laws.proofs.ItemTests.{may_decides}

@@ -9,8 +9,8 @@ use Rattle.v6_options.specs.declared.ia.IaKind.{IaKind}
 use Rattle.v6_options.specs.declared.ia.ItemSaid.{ItemSaid}
 use Rattle.v6_options.specs.Duids.{duid_in}
 use Rattle.v6_options.specs.Ias.{IaContent, ias_in}
-use Rattle.v6_client.specs.declared.setup.IaAsk.{IaAsk}
-use Rattle.v6_client.specs.Reading.{cleared, front_items, ia_for, is_no_binding, is_read, is_readable, is_unbound, saids_of, serves_by, some_read, some_served}
+use Rattle.v6_items.specs.declared.asks.IaAsk.{IaAsk}
+use Rattle.v6_items.specs.Reading.{cleared, front_items, ia_for, is_no_binding, is_read, is_readable, is_unbound, saids_of, serves_by, some_read, some_served}
 use Rattle.v6_client_laws.specs.GivenItems.{GivesItem, GivesSome, HasNoBinding, IsHeldAs, IsOfFirst}
 use Rattle.v6_client_laws.specs.GivenLaws.{BindingsAreKnown, ItemsAreGiven, MessagesServe, ServersAreNamed}
 use Rattle.v6_client_laws.proofs.FirstIas.{first_found, found_first}

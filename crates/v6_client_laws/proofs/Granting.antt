@@ -8,11 +8,11 @@ use Rattle.v6_message.specs.declared.kind.ServerKind6.TheVariants.{Advertise, Re
 use Rattle.v6_message.specs.Replies.{Content6}
 use Rattle.lease6_text.specs.Leases.{Lease6Content}
 use Rattle.v6_client.specs.declared.states.Carrier6.TheVariants.{Up, Down}
-use Rattle.v6_client.specs.declared.states.Cause6.{Cause6}
-use Rattle.v6_client.specs.declared.states.Cause6.TheVariants.{Lapse}
+use Rattle.v6_items.specs.declared.scope.Cause6.{Cause6}
+use Rattle.v6_items.specs.declared.scope.Cause6.TheVariants.{Lapse}
 use Rattle.v6_client.specs.declared.states.Keep6.{Keep6}
 use Rattle.v6_client.specs.declared.states.Keep6.TheVariants.{Stays, Clears, Takes}
-use Rattle.v6_client.specs.declared.states.Parting6.{Parting6}
+use Rattle.v6_items.specs.declared.scope.Parting6.{Parting6}
 use Rattle.v6_client.specs.declared.states.Step6.{Step6}
 use Rattle.v6_client.specs.Answers.{advertise_answer, advertised, awaited, chosen, counts, has_bytes, is_awaited, is_from, is_taken, learnt}
 use Rattle.v6_client.specs.Calls.{IsAnswered, fresh_in, pruned, pruned_lease, stands_at}

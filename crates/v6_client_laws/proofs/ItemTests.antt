@@ -11,7 +11,7 @@ use Rattle.v6_options.specs.declared.ia.IaKind.{IaKind}
 use Rattle.v6_options.specs.declared.ia.IaKind.TheVariants.{Na, Pd}
 use Rattle.v6_options.specs.declared.ia.ItemSaid.{ItemSaid}
 use Rattle.v6_options.specs.Ias.{IaContent}
-use Rattle.v6_client.specs.Reading.{are_ordered, cleared, net_cleared, has_len, is_read, is_readable, is_usable}
+use Rattle.v6_items.specs.Reading.{are_ordered, cleared, net_cleared, has_len, is_read, is_readable, is_usable}
 use Rattle.v6_client_laws.specs.GivenItems.{HasFront, HasLen, IsAssignable, IsHeldAs, IsWell, MayBeHeld}
 
 -- ---- bits in front

@@ -10,22 +10,22 @@ use Rattle.v6_message.specs.Replies.{Content6}
 use Rattle.lease6_text.specs.Leases.{Lease6Content}
 use Rattle.v6_client.specs.declared.states.Carrier6.{Carrier6}
 use Rattle.v6_client.specs.declared.states.Carrier6.TheVariants.{Up, Down}
-use Rattle.v6_client.specs.declared.states.Cause6.{Cause6}
-use Rattle.v6_client.specs.declared.states.Cause6.TheVariants.{Lapse, Duplicate}
+use Rattle.v6_items.specs.declared.scope.Cause6.{Cause6}
+use Rattle.v6_items.specs.declared.scope.Cause6.TheVariants.{Lapse, Duplicate}
 use Rattle.v6_client.specs.declared.states.Keep6.{Keep6}
 use Rattle.v6_client.specs.declared.states.Keep6.TheVariants.{Stays, Clears, Takes}
-use Rattle.v6_client.specs.declared.states.Parting6.{Parting6}
+use Rattle.v6_items.specs.declared.scope.Parting6.{Parting6}
 use Rattle.v6_client.specs.declared.states.Tell6.{Tell6}
 use Rattle.v6_client.specs.Answers.{advertise_answer, counts, granted, is_taken, learnt, meeting_of, server_of}
 use Rattle.v6_client.specs.Calls.{answer_in, carried_by, carrier_step, dates_in, due_of, fresh_in, pruned, pruned_lease, rebind_step, release_step, stands_at}
 use Rattle.v6_client.specs.Clients.{ClientContent, holds, is_at_end, is_restarting, turn_of}
 use Rattle.v6_client.specs.Hearing.{heard_row, is_kept_offer}
 use Rattle.v6_client.specs.Inputs.{duplicate_row}
-use Rattle.v6_client.specs.Items.{is_nonempty}
+use Rattle.v6_items.specs.Items.{is_nonempty}
 use Rattle.v6_client.specs.Moves.{declining_now, given_up, kept_after, kept_left, lapsed, missing, parting_at, thinned_lease}
 use Rattle.v6_client.specs.Origins.{GrantsOrigin, HadOrigin, KeepsOrTakesOrigin, KeepsOrigin, OriginsStay, origin_at}
 use Rattle.v6_client.specs.Runs.{Turned6, answered, carrier_turned, contested_turned, hears_turned, rebind_turned, release_turned, tick_turned}
-use Rattle.v6_client.specs.Taking.{ias_granted}
+use Rattle.v6_items.specs.Taking.{ias_granted}
 use Rattle.v6_client.specs.Ticks.{tick_row}
 
 -- ---- what a Reply grants

@@ -10,14 +10,14 @@ use Rattle.v6_options.specs.declared.ia.IaKind.{IaKind}
 use Rattle.lease6_text.specs.declared.lease.Item6.{Item6}
 use Rattle.lease6_text.specs.Leases.{IaLeaseContent, Lease6Content}
 use Rattle.lease6_text.specs.LineParts.{is_ia}
-use Rattle.v6_client.specs.declared.setup.IaAsk.{IaAsk}
-use Rattle.v6_client.specs.declared.states.Cause6.TheVariants.{Lapse}
-use Rattle.v6_client.specs.declared.states.Dates6.{Dates6}
+use Rattle.v6_items.specs.declared.asks.IaAsk.{IaAsk}
+use Rattle.v6_items.specs.declared.scope.Cause6.TheVariants.{Lapse}
+use Rattle.v6_items.specs.declared.scope.Dates6.{Dates6}
 use Rattle.v6_client.specs.declared.states.Keep6.{Keep6}
 use Rattle.v6_client.specs.declared.states.Keep6.TheVariants.{Stays, Clears, Takes}
-use Rattle.v6_client.specs.declared.states.Parting6.{Parting6}
-use Rattle.v6_client.specs.declared.states.Scope6.{Scope6}
-use Rattle.v6_client.specs.declared.states.Scope6.TheVariants as scope
+use Rattle.v6_items.specs.declared.scope.Parting6.{Parting6}
+use Rattle.v6_items.specs.declared.scope.Scope6.{Scope6}
+use Rattle.v6_items.specs.declared.scope.Scope6.TheVariants as scope
 use Rattle.v6_client.specs.declared.states.State6.{State6}
 use Rattle.v6_client.specs.declared.states.State6.TheVariants.{Off, Waiting, Soliciting, Requesting, Bound, Renewing, Rebinding, Restarting, Declining}
 use Rattle.v6_client.specs.declared.states.Step6.{Step6}
@@ -25,11 +25,11 @@ use Rattle.v6_client.specs.declared.turn.Turn6.{Turn6}
 use Rattle.v6_client.specs.Calls.{IsTicked, dates_in, due_of}
 use Rattle.v6_client.specs.Clients.{ClientContent, holds, is_all, is_at_end, scope_of, turn_of}
 use Rattle.v6_client.specs.Due.{due_row}
-use Rattle.v6_client.specs.Items.{asked_at, dates_of, goes_of, is_in, ia_with, ias_of, is_live, items_at, lapse_of, staying, thinned, without}
+use Rattle.v6_items.specs.Items.{asked_at, dates_of, goes_of, is_in, ia_with, ias_of, is_live, items_at, lapse_of, staying, thinned, without}
 use Rattle.v6_client.specs.Laws.{HoldsNothingOver, is_over_at}
 use Rattle.v6_client.specs.Moves.{OutContent, kept_after, lapsed, out_content, parting_at, thinned_lease}
 use Rattle.v6_client.specs.Ticks.{tick_row}
-use Rattle.v6_client.specs.Times.{earlier}
+use Rattle.v6_items.specs.Times.{earlier}
 use Rattle.v6_client.proofs.RowFacts.{tick_facts, ticks_before_end}
 
 -- ---- what is left isn't over

@@ -5,7 +5,7 @@ use Rattle.std.specs.List.{Contains}
 use Rattle.std.proofs.lemmas.Bool.{cases_lt, false_from_ne_true, leb-true, le-leb, both_ways}
 use Rattle.machine.specs.Moment.{is_due}
 use Rattle.net_types.proofs.CaseLaws.{split}
-use Rattle.v6_client.specs.Times.{earlier}
+use Rattle.v6_items.specs.Times.{earlier}
 use Rattle.v6_client_laws.specs.DueRows.{HasCome}
 use Rattle.v6_client_laws.specs.Least.{IsLeast, LeastOf}
 use Rattle.v6_client_laws.proofs.FirstItems.{behind_in, front_in, none_in}

@@ -13,27 +13,27 @@ use Rattle.v6_message.specs.Replies.{Content6}
 use Rattle.lease6_text.specs.declared.lease.Item6.{Item6}
 use Rattle.lease6_text.specs.Leases.{IaLeaseContent, Lease6Content}
 use Rattle.lease6_text.specs.LineParts.{is_ia, is_same_kind}
-use Rattle.v6_client.specs.declared.setup.IaAsk.{IaAsk}
+use Rattle.v6_items.specs.declared.asks.IaAsk.{IaAsk}
 use Rattle.v6_client.specs.declared.states.Carrier6.TheVariants.{Up, Down}
-use Rattle.v6_client.specs.declared.states.Cause6.{Cause6}
-use Rattle.v6_client.specs.declared.states.Cause6.TheVariants.{Lapse, Duplicate}
-use Rattle.v6_client.specs.declared.states.Dates6.{Dates6}
+use Rattle.v6_items.specs.declared.scope.Cause6.{Cause6}
+use Rattle.v6_items.specs.declared.scope.Cause6.TheVariants.{Lapse, Duplicate}
+use Rattle.v6_items.specs.declared.scope.Dates6.{Dates6}
 use Rattle.v6_client.specs.declared.states.Keep6.{Keep6}
 use Rattle.v6_client.specs.declared.states.Keep6.TheVariants.{Stays, Clears, Takes}
-use Rattle.v6_client.specs.declared.states.Parting6.{Parting6}
+use Rattle.v6_items.specs.declared.scope.Parting6.{Parting6}
 use Rattle.v6_client.specs.declared.states.State6.{State6}
 use Rattle.v6_client.specs.declared.states.Step6.{Step6}
 use Rattle.v6_client.specs.declared.turn.Turn6.{Turn6}
 use Rattle.v6_client.specs.Answers.{advertise_answer, counts, granted, is_taken, learnt, meeting_of, server_of}
-use Rattle.v6_client.specs.Bounds.{ask_key}
+use Rattle.v6_items.specs.Bounds.{ask_key}
 use Rattle.v6_client.specs.Calls.{IsAnswered, answer_in, dates_in, fresh_in, parting_begun, pruned, pruned_lease, stands_at}
 use Rattle.v6_client.specs.Clients.{ClientContent, holds, is_at_end, is_restarting, turn_of}
 use Rattle.v6_client.specs.Hearing.{heard_row, is_kept_offer}
 use Rattle.v6_client.specs.Inputs.{begin_row, duplicate_row, off_row}
-use Rattle.v6_client.specs.Items.{asked_at, ia_with, ias_of, is_nonempty, staying, thinned, without}
+use Rattle.v6_items.specs.Items.{asked_at, ia_with, ias_of, is_nonempty, staying, thinned, without}
 use Rattle.v6_client.specs.Moves.{IsStep6, OutContent, given_up, kept_after, kept_left, lapsed, moved, parting_at, thinned_lease}
 use Rattle.v6_client.specs.OwnLeases.{AreAsked, CarriersOwn, DuplicatesOwn, GrantsOwn, HeldOwn, MadeOwn, MessagesOwn, OwnIas, RebindsOwn, ReleasesOwn, TicksOwn, is_asked}
-use Rattle.v6_client.specs.Taking.{Meeting, ias_granted, taken_by}
+use Rattle.v6_items.specs.Taking.{Meeting, ias_granted, taken_by}
 use Rattle.v6_client.specs.Ticks.{tick_row}
 use Rattle.v6_client_laws.proofs.Lapsing.{start_row}
 use Rattle.v6_client.proofs.RowFacts.{begin_facts, duplicate_facts, heard_facts, rebind_facts, release_facts}

@@ -12,10 +12,10 @@ use Rattle.lease6_text.specs.Leases.{Lease6Content}
 use Rattle.v6_client.specs.declared.answers.TheConstants.{LEAST_SOL_MAX, MOST_SOL_MAX}
 use Rattle.v6_client.specs.declared.states.Carrier6.{Carrier6}
 use Rattle.v6_client.specs.declared.states.Carrier6.TheVariants.{Up, Down}
-use Rattle.v6_client.specs.declared.states.Cause6.TheVariants.{Lapse, Duplicate}
+use Rattle.v6_items.specs.declared.scope.Cause6.TheVariants.{Lapse, Duplicate}
 use Rattle.v6_client.specs.declared.states.Keep6.{Keep6}
 use Rattle.v6_client.specs.declared.states.Keep6.TheVariants.{Stays, Clears, Takes}
-use Rattle.v6_client.specs.declared.states.Parting6.{Parting6}
+use Rattle.v6_items.specs.declared.scope.Parting6.{Parting6}
 use Rattle.v6_client.specs.declared.states.Step6.{Step6}
 use Rattle.v6_client.specs.declared.states.Tell6.{Tell6}
 use Rattle.v6_client.specs.Answers.{advertise_answer, advertised, counts, learnt, sol_max_with}
@@ -29,7 +29,7 @@ use Rattle.v6_client.specs.Runs.{Turned6, answered, carrier_turned, contested_tu
 use Rattle.v6_client.specs.RunsStay.{GrantsFitting, OwnIasStay, SoundStays}
 use Rattle.v6_client.specs.Sound.{IsSound}
 use Rattle.v6_client.specs.Ticks.{tick_row}
-use Rattle.v6_client.proofs.LeaseFits.{left_fits, pruned_fits, thinned_fits}
+use Rattle.v6_client.proofs.LeftFits.{left_fits, pruned_fits, thinned_fits}
 use Rattle.v6_client_laws.proofs.OwnGrants.{answers_own, carriers_own, duplicates_own, rebinds_own, releases_own, ticks_own}
 
 -- ---- the IAs that are held

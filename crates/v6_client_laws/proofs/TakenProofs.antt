@@ -8,9 +8,9 @@ use Rattle.v6_options.specs.declared.ia.ItemSaid.{ItemSaid}
 use Rattle.lease6_text.specs.declared.lease.Item6.{Item6}
 use Rattle.lease6_text.specs.declared.lease.TheConstants.{ITEM_LIMIT}
 use Rattle.lease6_text.specs.LineParts.{is_of_net}
-use Rattle.v6_client.specs.declared.times.TheConstants.{FOREVER}
-use Rattle.v6_client.specs.Taking.{IaTaking, item_from, place_of, placed, shorter, taken_from, taken_out, takes_item}
-use Rattle.v6_client.specs.Times.{earlier, moment_after}
+use Rattle.v6_items.specs.declared.times.TheConstants.{FOREVER}
+use Rattle.v6_items.specs.Taking.{IaTaking, item_from, place_of, placed, shorter, taken_from, taken_out, takes_item}
+use Rattle.v6_items.specs.Times.{earlier, moment_after}
 use Rattle.v6_client_laws.specs.GivenLaws.{IsTaking, ItemsAreTaken}
 use Rattle.v6_client_laws.specs.Least.{LeastOf}
 use Rattle.v6_client_laws.specs.TakenItems as taken

@@ -7,17 +7,17 @@ use Rattle.net_types.proofs.CaseLaws.{gated, split}
 use Rattle.v6_options.specs.Ias.{IaContent}
 use Rattle.v6_client.specs.V6Message.Replies.{Content6}
 use Rattle.lease6_text.specs.Leases.{Lease6Content}
-use Rattle.v6_client.specs.declared.renewing.Spans6.{Spans6}
-use Rattle.v6_client.specs.declared.setup.IaAsk.{IaAsk}
-use Rattle.v6_client.specs.declared.times.TheConstants.{FOREVER, LEAST_TIME, T1_PART, T2_PART}
+use Rattle.v6_items.specs.declared.renewing.Spans6.{Spans6}
+use Rattle.v6_items.specs.declared.asks.IaAsk.{IaAsk}
+use Rattle.v6_items.specs.declared.times.TheConstants.{FOREVER, LEAST_TIME, T1_PART, T2_PART}
 use Rattle.v6_client.specs.Answers.{granted, is_taken, meeting_of, server_of, takes_replies}
 use Rattle.v6_client.specs.Calls.{fresh_in}
 use Rattle.v6_client.specs.Clients.{ClientContent}
-use Rattle.v6_client.specs.Items.{is_nonempty}
-use Rattle.v6_client.specs.Reading.{ia_for, saids_of, serves}
-use Rattle.v6_client.specs.Renewing.{joined, raised, span, spans_of}
-use Rattle.v6_client.specs.Taking.{Meeting, ia_spans, ias_granted, spans_granted, t1_granted, t2_granted, taken_by}
-use Rattle.v6_client.specs.Times.{earlier}
+use Rattle.v6_items.specs.Items.{is_nonempty}
+use Rattle.v6_items.specs.Reading.{ia_for, saids_of, serves}
+use Rattle.v6_items.specs.Renewing.{joined, raised, span, spans_of}
+use Rattle.v6_items.specs.Taking.{Meeting, ia_spans, ias_granted, spans_granted, t1_granted, t2_granted, taken_by}
+use Rattle.v6_items.specs.Times.{earlier}
 use Rattle.v6_client_laws.specs.GivenLaws.{IsGranted, LeasesAreGranted, TakesItems, TimesAreTold}
 use Rattle.v6_client_laws.specs.GivenTimes.{AreTimes, Brings, BringsSome, ComesAfter, IsTime, TellsT1, TellsT2, least_time, met}
 use Rattle.v6_client_laws.specs.Least.{IsLeast, LeastOf}

@@ -18,22 +18,22 @@ use Rattle.v6_options.specs.OptionArea.{Instance, field, front_of, instances_by,
 use Rattle.v6_options.specs.OptionGrammar.{AreBytes}
 use Rattle.v6_message.specs.Replies.{Content6}
 use Rattle.lease6_text.specs.Bounds.{FitsItem, FitsLease6}
-use Rattle.v6_client.specs.declared.renewing.Spans6.{Spans6}
-use Rattle.v6_client.specs.declared.setup.IaAsk.{IaAsk}
-use Rattle.v6_client.specs.declared.times.TheConstants.{FOREVER, SECOND, T1_PART, T2_PART}
+use Rattle.v6_items.specs.declared.renewing.Spans6.{Spans6}
+use Rattle.v6_items.specs.declared.asks.IaAsk.{IaAsk}
+use Rattle.v6_items.specs.declared.times.TheConstants.{FOREVER, SECOND, T1_PART, T2_PART}
 use Rattle.v6_client.specs.Answers.{granted, is_taken, learnt, meeting_of, server_of}
-use Rattle.v6_client.specs.Bounds.{AreTimed, IsTimed}
+use Rattle.v6_items.specs.Bounds.{AreTimed, IsTimed}
 use Rattle.v6_client.specs.Calls.{fresh_in}
 use Rattle.v6_client.specs.Clients.{ClientContent}
-use Rattle.v6_client.specs.Items.{is_nonempty}
-use Rattle.v6_client.specs.Reading.{cleared, ia_for, is_for, is_read, is_readable, read_item, saids_of}
-use Rattle.v6_client.specs.Renewing.{AreShort, joined, span, spans_of}
+use Rattle.v6_items.specs.Items.{is_nonempty}
+use Rattle.v6_items.specs.Reading.{cleared, ia_for, is_for, is_read, is_readable, read_item, saids_of}
+use Rattle.v6_items.specs.Renewing.{AreShort, joined, span, spans_of}
 use Rattle.v6_client.specs.RunsStay.{GrantsFit}
 use Rattle.v6_client.specs.Sound.{IsSound}
-use Rattle.v6_client.specs.Taking.{IaTaking, Meeting, ia_spans, ias_granted, item_from, place_of, placed, shorter, spans_granted, taken_by, takes_item}
-use Rattle.v6_client.specs.Times.{earlier}
-use Rattle.v6_client.proofs.LeaseFits.{ias_fit, t1_fits, t2_fits, values_fit}
-use Rattle.v6_client.proofs.SaidFits.{cons_all, saids_fit, take_all}
+use Rattle.v6_items.specs.Taking.{IaTaking, Meeting, ia_spans, ias_granted, item_from, place_of, placed, shorter, spans_granted, taken_by, takes_item}
+use Rattle.v6_items.specs.Times.{earlier}
+use Rattle.v6_items.proofs.LeaseFits.{ias_fit, t1_fits, t2_fits, values_fit}
+use Rattle.v6_items.proofs.SaidFits.{cons_all, saids_fit, take_all}
 use Rattle.v6_client_laws.proofs.StayingRuns.{learnt_sound}
 
 -- ---- bytes

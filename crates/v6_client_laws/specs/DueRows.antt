@@ -5,20 +5,20 @@ use Rattle.std.specs.List.{Contains}
 use Rattle.machine.specs.Moment.{is_due}
 use Rattle.lease6_text.specs.declared.lease.Item6.{Item6}
 use Rattle.lease6_text.specs.Leases.{Lease6Content}
-use Rattle.v6_client.specs.declared.setup.IaAsk.{IaAsk}
-use Rattle.v6_client.specs.declared.states.Cause6.TheVariants.{Lapse}
+use Rattle.v6_items.specs.declared.asks.IaAsk.{IaAsk}
+use Rattle.v6_items.specs.declared.scope.Cause6.TheVariants.{Lapse}
 use Rattle.v6_client.specs.declared.states.Keep6.TheVariants.{Stays}
 use Rattle.v6_client.specs.declared.states.News6.TheVariants as news
-use Rattle.v6_client.specs.declared.states.Scope6.{Scope6}
-use Rattle.v6_client.specs.declared.states.Scope6.TheVariants as scope
+use Rattle.v6_items.specs.declared.scope.Scope6.{Scope6}
+use Rattle.v6_items.specs.declared.scope.Scope6.TheVariants as scope
 use Rattle.v6_client.specs.declared.states.State6.{State6}
 use Rattle.v6_client.specs.declared.states.State6.TheVariants.{Off, Waiting, Soliciting, Requesting, Bound, Renewing, Rebinding, Restarting, Declining}
 use Rattle.v6_client.specs.declared.states.Step6.{Step6}
 use Rattle.v6_client.specs.Calls.{dates_in, due_of}
 use Rattle.v6_client.specs.Clients.{ClientContent, turn_of}
-use Rattle.v6_client.specs.Items.{asked_at, ias_of}
+use Rattle.v6_items.specs.Items.{asked_at, ias_of}
 use Rattle.v6_client.specs.Moves.{lapsed, parting_at}
-use Rattle.v6_client.specs.Taking.{t1_of, t2_of}
+use Rattle.v6_items.specs.Taking.{t1_of, t2_of}
 use Rattle.v6_client.specs.Ticks.{tick_row}
 use Rattle.v6_client_laws.specs.Least.{LeastOf}
 

@@ -7,12 +7,12 @@ use Rattle.v6_options.specs.Ias.{IaContent}
 use Rattle.v6_client.specs.V6Message.Replies.{Content6}
 use Rattle.lease6_text.specs.declared.lease.Item6.{Item6}
 use Rattle.lease6_text.specs.Leases.{Lease6Content}
-use Rattle.v6_client.specs.declared.setup.IaAsk.{IaAsk}
+use Rattle.v6_items.specs.declared.asks.IaAsk.{IaAsk}
 use Rattle.v6_client.specs.Answers.{meeting_of, server_of}
 use Rattle.v6_client.specs.Calls.{fresh_in}
 use Rattle.v6_client.specs.Clients.{ClientContent}
-use Rattle.v6_client.specs.Reading.{ia_for, is_unbound, saids_of, serves}
-use Rattle.v6_client.specs.Taking.{IaTaking, Meeting, spans_granted, t1_granted, t2_granted, taken_from}
+use Rattle.v6_items.specs.Reading.{ia_for, is_unbound, saids_of, serves}
+use Rattle.v6_items.specs.Taking.{IaTaking, Meeting, spans_granted, t1_granted, t2_granted, taken_from}
 use Rattle.v6_client_laws.specs.GivenItems.{GivesItem, HasNoBinding, NamesServer, Serves}
 use Rattle.v6_client_laws.specs.GivenTimes.{AreTimes}
 use Rattle.v6_client_laws.specs.Least.{LeastOf}

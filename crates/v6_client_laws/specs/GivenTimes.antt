@@ -4,10 +4,10 @@ use Rattle.std.specs.List.{Contains}
 use Rattle.v6_options.specs.declared.ia.ItemSaid.{ItemSaid}
 use Rattle.v6_options.specs.Ias.{IaContent}
 use Rattle.lease6_text.specs.declared.lease.Item6.{Item6}
-use Rattle.v6_client.specs.declared.setup.IaAsk.{IaAsk}
-use Rattle.v6_client.specs.Items.{asked_at, ias_of}
-use Rattle.v6_client.specs.Reading.{ia_for, is_unbound, saids_of}
-use Rattle.v6_client.specs.Taking.{Meeting, carried, t1_of, t2_of}
+use Rattle.v6_items.specs.declared.asks.IaAsk.{IaAsk}
+use Rattle.v6_items.specs.Items.{asked_at, ias_of}
+use Rattle.v6_items.specs.Reading.{ia_for, is_unbound, saids_of}
+use Rattle.v6_items.specs.Taking.{Meeting, carried, t1_of, t2_of}
 use Rattle.v6_client_laws.specs.GivenItems.{IsFirstOf}
 use Rattle.v6_client_laws.specs.Least.{IsLeast}
 use Rattle.v6_client_laws.specs.TakenItems.{IsPreferredFor, Takes, endless, second}

@@ -1,6 +1,6 @@
 use Rattle.std.proofs.Common.{sym, ap, subst}
 use Rattle.net_types.specs.NameText.{FitsName}
-use Rattle.v6_client.specs.Bounds.{FitsAsks}
+use Rattle.v6_items.specs.Bounds.{FitsAsks}
 use Rattle.v6_client.specs.Settings.{SettingsContent}
 use Rattle.iface_machines.proofs.Asks6.{asks_fit}
 use Rattle.iface_machines.proofs.dhcp6.client6_of.Goals as goal

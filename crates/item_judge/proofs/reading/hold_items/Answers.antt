@@ -2,7 +2,7 @@ use Rattle.std.proofs.Common.{◌≡◌, ◌∷◌, ◌∙◌, List, sym, ap, ru
 use Rattle.std.specs.List.{cons_option, filter_map}
 use Rattle.v6_options.specs.declared.ia.ItemSaid.{ItemSaid}
 use Rattle.v6_options.specs.IaViews.{items_left}
-use Rattle.v6_client.specs.Reading.{read_item}
+use Rattle.v6_items.specs.Reading.{read_item}
 use Rattle.lease6_judge.specs.Terms.{Term}
 use Rattle.item_judge.specs.Tables.{term_at}
 use Rattle.item_judge.specs.Walks.{with_saids}

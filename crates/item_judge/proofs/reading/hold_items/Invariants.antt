@@ -2,7 +2,7 @@ use Rattle.std.proofs.Common.{◌≡◌}
 use Rattle.std.specs.List.{filter_map}
 use Rattle.net_types.specs.declared.address.Net6.{Net6}
 use Rattle.v6_options.specs.IaViews.{ia_shown, items_left}
-use Rattle.v6_client.specs.Reading.{read_item}
+use Rattle.v6_items.specs.Reading.{read_item}
 use Rattle.item_judge.specs.Tables.{term_at}
 use Rattle.item_judge.specs.Walks.{front_all, with_saids}
 use Rattle.item_judge.proofs.reading.hold_items.Given as goal

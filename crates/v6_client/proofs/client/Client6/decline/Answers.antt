@@ -2,8 +2,8 @@ use Rattle.std.proofs.Common.{Option, IfSome, sym, subst}
 use Rattle.lease6_text.specs.Bounds.{FitsLease6}
 use Rattle.lease6_text.specs.Leases.{Lease6Content}
 use Rattle.v6_client.specs.Clients.{kept_in}
-use Rattle.v6_client.specs.declared.states.Cause6.TheVariants.{Duplicate}
-use Rattle.v6_client.proofs.LeaseFits.{thinned_fits}
+use Rattle.v6_items.specs.declared.scope.Cause6.TheVariants.{Duplicate}
+use Rattle.v6_client.proofs.LeftFits.{thinned_fits}
 use Rattle.v6_client.proofs.client.Client6.decline.Goals as goal
 
 pub invariant_of-self-2 : goal.invariant_of-self-2

@@ -1,9 +1,9 @@
 use Rattle.std.proofs.Common.{Option, IfSome, sym, subst}
 use Rattle.lease6_text.specs.Bounds.{FitsLease6}
 use Rattle.lease6_text.specs.Leases.{Lease6Content}
-use Rattle.v6_client.specs.Bounds.{FitsAsks}
+use Rattle.v6_items.specs.Bounds.{FitsAsks}
 use Rattle.v6_client.specs.Clients.{kept_in}
-use Rattle.v6_client.proofs.LeaseFits.{pruned_fits}
+use Rattle.v6_client.proofs.LeftFits.{pruned_fits}
 use Rattle.v6_client.proofs.client.Client6.prune.Goals as goal
 
 pub invariant_of-self : goal.invariant_of-self

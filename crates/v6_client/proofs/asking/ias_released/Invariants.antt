@@ -1,8 +1,0 @@
-use Rattle.std.proofs.Common.{◌≡◌, map, take}
-use Rattle.v6_message.specs.Requests.{asked_content}
-use Rattle.lease6_text.specs.Leases.{ias_content}
-use Rattle.v6_client.specs.Asking.{ias_released}
-use Rattle.v6_client.proofs.asking.ias_released.Given as goal
-
-abbrev pub invariant-loop-ask : goal.invariant-loop-ask
-invariant-loop-ask l = map asked_content l.all.items ≡ ias_released (ias_content l.ias) (take l.ask-index l.asks)
