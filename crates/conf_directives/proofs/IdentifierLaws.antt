@@ -3,9 +3,9 @@ use Rattle.std.proofs.Common.{◌≡◌, ℕ, ◌≤◌, Bool, true, false, List
 use Rattle.std.specs.Prelude.{IfSome, option_map, if◌then◌else◌}
 use Rattle.std.proofs.lemmas.Bool.{and_parts}
 use Rattle.net_types.specs.Cutting.{guarded, read_all}
-use Rattle.conf_directives.specs.Words.{colon_parts}
-use Rattle.conf_directives.specs.Texts.{is_printed}
-use Rattle.conf_directives.specs.Identifiers.{are_enough, identifier_by, pair, pairs, typed_text}
+use Rattle.conf_values.specs.Words.{colon_parts}
+use Rattle.conf_values.specs.Texts.{is_printed}
+use Rattle.conf_values.specs.Identifiers.{are_enough, identifier_by, pair, pairs, typed_text}
 use Rattle.conf_directives.specs.SayLaws.{FitsOption, IdentifiersFit}
 
 guarded_passes : {X : Type 0} (test : X → Bool) (found : Option X) → IfSome (guarded test found) (λ x. test x ≡ true)

@@ -1,22 +1,15 @@
 -- Prefixes that are asked for, and their subnets, have lengths within their bounds.
-use Rattle.std.proofs.Common.{◌≡◌, ℕ, ◌≤◌, ◌<◌, true, false, List, [], ◌∷◌, Option, Some, None, refl, subst, inl, inr, arith, leb-true, ltb-true, nat_le, nat_lt}
+use Rattle.std.proofs.Common.{◌≡◌, ℕ, ◌≤◌, ◌<◌, true, false, List, [], ◌∷◌, Option, Some, None, refl, inl, inr, arith, leb-true, ltb-true, nat_le, nat_lt}
 use Rattle.std.specs.Prelude.{IfSome, option_map, if◌then◌else◌}
 use Rattle.net_types.specs.Cutting.{◌>>=◌, guarded}
 use Rattle.net_types.specs.NameText.{name_at}
 use Rattle.net_types.specs.Numbers.{number_at}
 use Rattle.net_types.specs.Ip6Text.{ip6_at}
-use Rattle.conf_directives.specs.Words.{slash_parts}
+use Rattle.conf_values.specs.Words.{slash_parts}
 use Rattle.conf_directives.specs.Shares.{asked, hint_at, id_at, len_at, share_by, share_of}
 use Rattle.conf_directives.specs.SayLaws.{FitsAsked, FitsLine, HintsFit, SharesFit}
+use Rattle.conf_values.proofs.FoundLaws.{at_some, bound}
 use Rattle.conf_directives.proofs.CodeLaws.{number_below}
-
-pub bound : {X Y : Type 0} (Fits : Y → Type 0) (found : Option X) (next : X → Option Y) → ((x : X) → found ≡ Some x → IfSome (next x) Fits)
-    → IfSome (found >>= next) Fits
-bound Fits None next all = tt
-bound Fits (Some x) next all = all x refl
-
-pub at_some : {X : Type 0} (Fits : X → Type 0) (found : Option X) (x : X) → found ≡ Some x → IfSome found Fits → Fits x
-at_some Fits found x e fits = subst (λ o. IfSome o Fits) e fits
 
 record IsWithin (least number : ℕ) : Type 0 where
   low : least ≤ number

@@ -4,4 +4,3 @@ pub mod OrderedShares
 pub mod IdentifierLaws
 pub mod CodeLaws
 pub mod LengthLaws
-pub mod TextLaws

@@ -11,7 +11,7 @@ use Rattle.conf_directives.specs.declared.names.DirectiveName.TheVariants as nam
 use Rattle.conf_directives.specs.Contents.{SaidContent}
 use Rattle.conf_directives.specs.Names.{directive_at}
 use Rattle.conf_directives.specs.Statics.{static_said}
-use Rattle.conf_directives.specs.Words.{HasArguments}
+use Rattle.conf_values.specs.Words.{HasArguments}
 use Rattle.conf_directives.specs.Says.{ByArguments, IsStatic, SaysNamed}
 use Rattle.conf_directives.specs.SayLaws.{BlocksAreOfOneInterface, LinesSayOneThing}
 

@@ -1,18 +1,11 @@
 -- Lists of words, and what they view.
 use Rattle.std.proofs.Common.{◌≡◌, ℕ, Bool, true, false, not, ◌&&◌, ◌||◌, ◌==◌, cond, List, [], ◌∷◌, length, map, filter, filter_map, Option, Some, refl, ap, ◌∙◌}
 use Rattle.std.proofs.lemmas.List.{length-map}
-use Rattle.std.proofs.lemmas.List.Folds.{list_all-map}
-use Rattle.std.specs.List.{cons_option, list_all, list_any}
-use Rattle.domain_names.specs.NameText.{is_name}
+use Rattle.std.specs.List.{cons_option, list_any}
 use Rattle.conf_directives.specs.declared.names.CodeList.{CodeList}
 use Rattle.conf_directives.specs.Contents as contents
 use Rattle.conf_directives.specs.Contents.{SaidContent}
-use Rattle.conf_directives.specs.Texts.{are_names}
 use Rattle.conf_directives.specs.Codes.{are_right, codes_of, is_noticed, is_rapid, is_wrong, option_word, taken_code}
-
-pub map_viewed : {A X Y : Type 0} (f : X → Y) (view : A → X) (xs : List A) → map f (map view xs) ≡ map (λ x. f (view x)) xs
-map_viewed f view [] = refl
-map_viewed f view (x ∷ xs) = ap (λ ys. f (view x) ∷ ys) (map_viewed f view xs)
 
 any_viewed : {A X : Type 0} (test : X → Bool) (view : A → X) (xs : List A) → list_any test (map view xs) ≡ list_any (λ x. test (view x)) xs
 any_viewed test view [] = refl
@@ -31,11 +24,6 @@ filter_viewed test view (x ∷ xs) =
 filter_map_viewed : {A X Y : Type 0} (give : X → Option Y) (view : A → X) (xs : List A) → filter_map give (map view xs) ≡ filter_map (λ x. give (view x)) xs
 filter_map_viewed give view [] = refl
 filter_map_viewed give view (x ∷ xs) = ap (cons_option (give (view x))) (filter_map_viewed give view xs)
-
-pub names_viewed : {A : Type 0} (view : A → List ℕ) (xs : List A) → are_names (map view xs) ≡ (not (length xs == 0) && list_all (λ x. is_name (view x)) xs)
-names_viewed view xs =
-    ap (λ n. not (n == 0) && list_all is_name (map view xs)) (length-map xs view)
-    ∙ ap (λ b. not (length xs == 0) && b) (list_all-map is_name view xs)
 
 pub right_viewed : {A : Type 0} (list : CodeList) (view : A → List ℕ) (xs : List A)
     → are_right list (map view xs) ≡ (not (length xs == 0) && not (list_any (λ x. is_wrong (option_word list (view x))) xs))

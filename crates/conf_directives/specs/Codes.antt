@@ -10,7 +10,7 @@ use Rattle.conf_directives.specs.declared.names.CodeList.{CodeList}
 use Rattle.conf_directives.specs.declared.names.CodeList.TheVariants.{Asked, Refused, Required}
 use Rattle.conf_directives.specs.declared.option_words.OptionWord.{OptionWord}
 use Rattle.conf_directives.specs.declared.option_words.OptionWord.TheVariants.{Taken, RapidCommit, Noticed, Wrong}
-use Rattle.conf_directives.specs.Words.{options_of}
+use Rattle.conf_values.specs.Words.{options_of}
 use Rattle.conf_directives.specs.Contents.{CodesContent, SaidContent}
 use Rattle.conf_directives.specs.Contents as contents
 

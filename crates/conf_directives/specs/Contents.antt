@@ -15,8 +15,8 @@ use Rattle.conf_directives.specs.declared.values.StaticValue.{StaticValue}
 use Rattle.conf_directives.specs.declared.values.StaticValue.TheVariants as statics
 use Rattle.conf_directives.specs.declared.values.ShareLine.{ShareLine}
 use Rattle.conf_directives.specs.declared.values.IaLine.{IaLine}
-use Rattle.conf_directives.specs.declared.values.Env.{Env}
-use Rattle.conf_directives.specs.declared.values.Pattern.{Pattern}
+use Rattle.conf_values.specs.Texts.{EnvContent, env_content}
+use Rattle.conf_values.specs.declared.patterns.Pattern.{Pattern}
 use Rattle.conf_directives.specs.declared.values.Directive.{Directive}
 use Rattle.conf_directives.specs.declared.values.Directive.TheVariants as directives
 use Rattle.conf_directives.specs.declared.values.LineSaid.{LineSaid}
@@ -44,10 +44,6 @@ pub record IaContent : Type 0 where
   pub iaid : Option ℕ
   pub hint : ℕ
   pub shares : List ShareLine
-
-pub record EnvContent : Type 0 where
-  pub name : List ℕ
-  pub value : List ℕ
 
 pub data DirectiveContent : Type 0 where
   Flag : FlagName → DirectiveContent
@@ -96,9 +92,6 @@ static_content (statics.Address6 net) = Address6 net
 
 abbrev pub ia_content : IaLine → IaContent
 ia_content ia = record { kind = ia.kind; iaid = ia.iaid; hint = ia.hint; shares = ia.shares.items }
-
-abbrev pub env_content : Env → EnvContent
-env_content env = record { name = string_bytes env.name; value = string_bytes env.value }
 
 abbrev pub directive_content : Directive → DirectiveContent
 directive_content (directives.Flag name) = Flag name

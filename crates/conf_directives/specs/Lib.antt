@@ -1,12 +1,8 @@
 pub mod Names
 pub mod Contents
-pub mod Words
-pub mod Texts
-pub mod Identifiers
-pub mod Patterns
-pub mod Nets
 pub mod Codes
 pub mod Shares
 pub mod Statics
 pub mod Says
 pub mod SayLaws
+pub use Rattle.conf_values.specs as ConfValues

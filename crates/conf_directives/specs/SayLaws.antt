@@ -10,7 +10,7 @@ use Rattle.conf_directives.specs.Shares.{asked_by, share}
 use Rattle.conf_directives.specs.Codes.{codes_in, is_needed}
 use Rattle.net_types.specs.declared.interface.Name.{Name}
 use Rattle.conf_directives.specs.Contents.{SaidContent}
-use Rattle.conf_directives.specs.Identifiers.{identifier}
+use Rattle.conf_values.specs.Identifiers.{identifier}
 use Rattle.conf_directives.specs.Says.{IsOfInterface, Says}
 
 abbrev pub LinesSayOneThing : Type 0

@@ -12,16 +12,16 @@ use Rattle.conf_directives.specs.declared.names.ValueName.{ValueName}
 use Rattle.conf_directives.specs.declared.names.ValueName.TheVariants as values
 use Rattle.conf_directives.specs.declared.names.DirectiveName.{DirectiveName}
 use Rattle.conf_directives.specs.declared.names.DirectiveName.TheVariants as names
-use Rattle.conf_directives.specs.declared.texts.TheConstants.{TEXT_LIMIT}
+use Rattle.conf_values.specs.declared.texts.TheConstants.{TEXT_LIMIT}
 use Rattle.conf_directives.specs.declared.valued.TheConstants.{SECONDS_LIMIT}
-use Rattle.conf_directives.specs.Words.{HasArguments, one_or_more, only}
+use Rattle.conf_values.specs.Words.{HasArguments, one_or_more, only}
 use Rattle.conf_directives.specs.Names.{directive_at}
 use Rattle.conf_directives.specs.Contents as contents
 use Rattle.conf_directives.specs.Contents.{DirectiveContent, IdentifierContent, SaidContent, noticed, taken}
-use Rattle.conf_directives.specs.Texts.{domain_name, printed, variable}
-use Rattle.conf_directives.specs.Identifiers.{identifier}
-use Rattle.conf_directives.specs.Patterns.{pattern}
-use Rattle.conf_directives.specs.Nets.{server_net}
+use Rattle.conf_values.specs.Texts.{domain_name, printed, variable}
+use Rattle.conf_values.specs.Identifiers.{identifier}
+use Rattle.conf_values.specs.Patterns.{pattern}
+use Rattle.conf_values.specs.Nets.{server_net}
 use Rattle.conf_directives.specs.Codes.{codes_said}
 use Rattle.conf_directives.specs.Shares.{addresses, prefixes}
 use Rattle.conf_directives.specs.Statics.{static_said}

@@ -12,7 +12,7 @@ use Rattle.v6_options.specs.declared.ia.IaKind.TheVariants.{Na, Pd}
 use Rattle.conf_directives.specs.declared.values.ShareLine.{ShareLine}
 use Rattle.conf_directives.specs.declared.shares.Asked.{Asked}
 use Rattle.conf_directives.specs.declared.shares.TheConstants.{LEAST_HINT, LEN_LIMIT, USUAL_LEN}
-use Rattle.conf_directives.specs.Words.{slash, slash_parts}
+use Rattle.conf_values.specs.Words.{slash, slash_parts}
 use Rattle.conf_directives.specs.Contents.{IaContent, SaidContent, taken}
 use Rattle.conf_directives.specs.Contents as contents
 

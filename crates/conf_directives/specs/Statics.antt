@@ -7,10 +7,10 @@ use Rattle.net_types.specs.Ip6Text.{net6_at}
 use Rattle.conf_words.specs.Marks.{is_of_word}
 use Rattle.conf_directives.specs.declared.statics.StaticName.{StaticName}
 use Rattle.conf_directives.specs.declared.statics.StaticName.TheVariants as names
-use Rattle.conf_directives.specs.Words.{is_some_text, members_of, one_or_more, only}
+use Rattle.conf_values.specs.Words.{is_some_text, members_of, one_or_more, only}
 use Rattle.conf_directives.specs.Names.{named}
-use Rattle.conf_directives.specs.Nets.{own_net}
-use Rattle.conf_directives.specs.Texts.{domain_name, domain_names, equals_sign}
+use Rattle.conf_values.specs.Nets.{own_net}
+use Rattle.conf_values.specs.Texts.{domain_name, domain_names, equals_sign}
 use Rattle.conf_directives.specs.Contents.{StaticContent, Address, Routers, NameServers, DomainName, DomainSearch, Address6, SaidContent, noticed, taken}
 use Rattle.conf_directives.specs.Contents as contents
 

@@ -6,19 +6,14 @@
 #![tactic(auto)]
 
 mod constants;
-mod identifiers;
 mod laws;
 mod names;
-mod nets;
 mod option_words;
-mod patterns;
 mod reading;
 mod shares;
 mod statics;
-mod texts;
 mod valued;
 mod values;
-mod words;
 
 pub use constants::bounds_of_arguments;
 pub use laws::{codes_fit, identifiers_fit, lengths_fit, lines_say_one_thing};
@@ -27,6 +22,4 @@ pub use names::{
     directive_named, heading_named,
 };
 pub use reading::{directive_said, interface_said};
-pub use values::{
-    CodesSaid, Directive, Env, IaLine, Identifier, LineSaid, Pattern, ShareLine, StaticValue,
-};
+pub use values::{CodesSaid, Directive, IaLine, Identifier, LineSaid, ShareLine, StaticValue};

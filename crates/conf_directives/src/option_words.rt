@@ -10,7 +10,7 @@ ghost use Rattle.v4_options.specs.OptionTable.{code_named};
 
 use crate::names::CodeList;
 use crate::values::{CodesSaid, Directive, LineSaid};
-use crate::words::all_options;
+use conf_values::all_options;
 use net_types::{NoMemory, u8_of};
 use std::alloc::{AllocError, Global};
 use v4_options::{code, code_named};

@@ -4,16 +4,15 @@ ghost use Rattle.conf_directives.specs.Contents.{said_content, taken};
 ghost use Rattle.conf_directives.specs.Says.{ByArguments, IsOfInterface, IsStatic, Says, SaysNamed, host_said, ia_said, value_said};
 ghost use Rattle.conf_directives.specs.Codes.{codes_said};
 ghost use Rattle.conf_directives.specs.Contents as contents;
-ghost use Rattle.conf_directives.specs.Texts.{domain_name};
+ghost use Rattle.conf_values.specs.Texts.{domain_name};
 
 use crate::names::{CodeList, DirectiveName, ValueName, directive_named};
 use crate::option_words::codes_said;
 use crate::shares::{addresses, prefixes};
 use crate::statics::static_said;
-use crate::texts::domain_name;
 use crate::valued::value_said;
 use crate::values::{Directive, Identifier, LineSaid};
-use crate::words::{argument_texts, only};
+use conf_values::{argument_texts, domain_name, only};
 use conf_words::{Line, whole_argument};
 use net_types::{Name, NoMemory, name_of};
 use std::alloc::Global;

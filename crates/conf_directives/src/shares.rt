@@ -4,10 +4,10 @@ ghost use Rattle.std.specs.List.Sorted.{IsNonDecreasingBy};
 ghost use Rattle.prefix_share.specs.Rules.{is_plan};
 ghost use Rattle.conf_directives.specs.Contents.{ia_content, said_content};
 ghost use Rattle.conf_directives.specs.Shares.{addresses, are_planned, asked_by, fourth_part, hint_at, ia, id_at, left_over, len_at, planned, prefix_by, prefixes, share, share_by, share_of, share_with};
-ghost use Rattle.conf_directives.specs.Words.{slash_parts};
+ghost use Rattle.conf_values.specs.Words.{slash_parts};
 
 use crate::values::{Directive, IaLine, LineSaid, ShareLine};
-use crate::words::{Word, all_of, slash_parts};
+use conf_values::{Word, all_of, slash_parts};
 use net_types::{NoMemory, ip6_of, name_of, number_of, split_at_byte, u8_of};
 use prefix_share::{Share, plan};
 use std::alloc::{AllocError, Global};

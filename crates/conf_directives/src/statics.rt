@@ -6,13 +6,11 @@ ghost use Rattle.conf_directives.specs.Contents.{said_content, static_content};
 ghost use Rattle.conf_directives.specs.Names.{named};
 ghost use Rattle.conf_directives.specs.declared.statics.StaticName.TheVariants as names;
 ghost use Rattle.conf_directives.specs.Statics.{is_key, named_value, static_by, static_rows, static_said, value_of};
-ghost use Rattle.conf_directives.specs.Words.{members_of};
+ghost use Rattle.conf_values.specs.Words.{members_of};
 
 use crate::names::named;
-use crate::nets::own_net;
-use crate::texts::{domain_names, domain_text};
 use crate::values::{Directive, LineSaid, StaticValue};
-use crate::words::{members_of, one_or_more, only};
+use conf_values::{domain_names, domain_text, members_of, one_or_more, only, own_net};
 use net_types::{NoMemory, net6_of, split_at_byte};
 use std::alloc::Global;
 

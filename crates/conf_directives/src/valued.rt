@@ -4,11 +4,9 @@ ghost use Rattle.conf_directives.specs.Contents.{directive_content, identifier_c
 ghost use Rattle.conf_directives.specs.Says.{client_id, value_said, vendor_class};
 ghost use Rattle.conf_directives.specs.declared.names.ValueName.TheVariants as values;
 
-use crate::identifiers::identifier;
 use crate::names::{InterfaceList, SecondsName, ValueName};
-use crate::texts::{TEXT_LIMIT, printed, printed_text, variable};
 use crate::values::{Directive, Identifier};
-use crate::words::{one_or_more, only};
+use conf_values::{TEXT_LIMIT, identifier, one_or_more, only, printed, printed_text, variable};
 use net_types::{NoMemory, number_of};
 use std::alloc::{AllocError, Global};
 

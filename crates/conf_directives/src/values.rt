@@ -3,6 +3,7 @@ ghost use Rattle.std.specs.Prelude.{◌≡◌, IfOk};
 ghost use Rattle.conf_directives.specs.Contents.{directive_content, noticed, said_content, taken};
 
 use crate::names::{CodeList, FlagName, InterfaceList, SecondsName};
+use conf_values::{Env, Pattern};
 use net_types::{Ip4, Name, Net4, Net6};
 use std::alloc::{AllocError, Global};
 use v6_options::IaKind;
@@ -66,25 +67,6 @@ pub struct IaLine {
     /// The length of the prefix that is asked for in bits, 8 to 127, or 0 where none is.
     pub hint: u8,
     pub shares: Vec<ShareLine>,
-}
-
-/// A variable of hooks, printable ASCII.
-#[derive(Debug, Drop)]
-pub struct Env {
-    /// Holds no `=`, and isn't empty.
-    pub name: String,
-    pub value: String,
-}
-
-/// Which interfaces a word names.
-#[derive(Clone, Copy, Debug)]
-pub enum Pattern {
-    /// The one of this name.
-    Exactly(Name),
-    /// `*`: all.
-    Any,
-    /// A beginning and `*`: those whose names begin so.
-    Beginning(Name),
 }
 
 /// A directive with its arguments.

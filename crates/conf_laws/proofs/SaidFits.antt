@@ -24,11 +24,11 @@ use Rattle.conf_directives.specs.declared.names.ValueName.{ValueName}
 use Rattle.conf_directives.specs.declared.names.ValueName.TheVariants as values
 use Rattle.conf_directives.specs.Contents.{noticed, IaContent, DirectiveContent, Flag, Seconds, Metric, HostName, VendorClass, ClientIs, Static, Ia, Variable, Blacklist, Interfaces, Script, Bytes, Duid, StaticContent, Address, Routers, NameServers, DomainName, DomainSearch, Address6, SaidContent, taken}
 use Rattle.conf_directives.specs.Names.{named}
-use Rattle.conf_directives.specs.Words.{only, one_or_more, colon_parts, slash_parts, members_of, options_of}
-use Rattle.conf_directives.specs.Texts.{domain_name, domain_names, equals_sign, is_printed, printed, variable}
-use Rattle.conf_directives.specs.Identifiers.{are_enough, identifier, identifier_by, pair, pairs, typed_text}
-use Rattle.conf_directives.specs.Nets.{class_len, first_byte, net_by, own_net, server_net}
-use Rattle.conf_directives.specs.Patterns.{pattern}
+use Rattle.conf_directives.specs.ConfValues.Words.{only, one_or_more, colon_parts, slash_parts, members_of, options_of}
+use Rattle.conf_directives.specs.ConfValues.Texts.{domain_name, domain_names, equals_sign, is_printed, printed, variable}
+use Rattle.conf_directives.specs.ConfValues.Identifiers.{are_enough, identifier, identifier_by, pair, pairs, typed_text}
+use Rattle.conf_directives.specs.ConfValues.Nets.{class_len, first_byte, net_by, own_net, server_net}
+use Rattle.conf_directives.specs.ConfValues.Patterns.{pattern}
 use Rattle.conf_directives.specs.Shares.{addresses, are_planned, asked, asked_by, hint_at, ia, id_at, left_over, prefix, prefix_by, share}
 use Rattle.conf_directives.specs.Statics.{is_key, named_value, only_name, static_by, static_rows, static_said}
 use Rattle.conf_directives.specs.Codes.{are_right, codes_of, codes_said}

@@ -10,7 +10,7 @@ use Rattle.std.proofs.lemmas.Option.{none-some, slice_get-map}
 use Rattle.net_types.specs.declared.interface.Name.{Name}
 use Rattle.conf_words.specs.Directives.{Directive}
 use Rattle.conf_directives.specs.declared.names.InterfaceList.TheVariants.{Allowed, Denied}
-use Rattle.conf_directives.specs.declared.values.Pattern.{Pattern}
+use Rattle.conf_values.specs.declared.patterns.Pattern.{Pattern}
 use Rattle.conf_directives.specs.Names.{heading_at}
 use Rattle.conf_directives.specs.Contents.{DirectiveContent, SaidContent}
 use Rattle.conf_text.specs.declared.answers.ConfCause.{ConfCause}

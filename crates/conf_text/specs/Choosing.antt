@@ -4,8 +4,8 @@ use Rattle.std.specs.List.{list_any, starts_with}
 use Rattle.net_types.specs.declared.interface.Name.{Name}
 use Rattle.net_types.specs.declared.interface.IfSpec.{IfSpec}
 use Rattle.net_types.specs.NameText.{name_text}
-use Rattle.conf_directives.specs.declared.values.Pattern.{Pattern}
-use Rattle.conf_directives.specs.declared.values.Pattern.TheVariants.{Exactly, Any, Beginning}
+use Rattle.conf_values.specs.declared.patterns.Pattern.{Pattern}
+use Rattle.conf_values.specs.declared.patterns.Pattern.TheVariants.{Exactly, Any, Beginning}
 use Rattle.conf_text.specs.Places.{is_named}
 use Rattle.conf_text.specs.Scopes.{ScopeContent, scope_of}
 use Rattle.conf_text.specs.Configurations.{BlockContent, Configuration}

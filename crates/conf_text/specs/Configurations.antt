@@ -7,7 +7,7 @@ use Rattle.conf_words.specs.Directives.{Directive}
 use Rattle.conf_words.specs.Readings.{Read, IsReadAs}
 use Rattle.conf_directives.specs.declared.names.InterfaceList.{InterfaceList}
 use Rattle.conf_directives.specs.declared.names.InterfaceList.TheVariants.{Allowed, Denied}
-use Rattle.conf_directives.specs.declared.values.Pattern.{Pattern}
+use Rattle.conf_values.specs.declared.patterns.Pattern.{Pattern}
 use Rattle.conf_directives.specs.Contents.{DirectiveContent}
 use Rattle.conf_text.specs.declared.answers.ConfFault.{ConfFault}
 use Rattle.conf_text.specs.Numbering.{line_number}

@@ -1,7 +1,8 @@
 -- What a configuration and its parts say, without where they lie in memory.
 use Rattle.std.specs.Prelude.{ℕ, List, map, Option, option_map, string_bytes}
 use Rattle.std.specs.Global.{Vec}
-use Rattle.conf_directives.specs.Contents.{identifier_content, codes_content, ia_content, env_content}
+use Rattle.conf_directives.specs.Contents.{identifier_content, codes_content, ia_content}
+use Rattle.conf_values.specs.Texts.{env_content}
 use Rattle.conf_text.specs.declared.statics.Statics.{Statics}
 use Rattle.conf_text.specs.declared.scope.Scope.{Scope}
 use Rattle.conf_text.specs.declared.conf.Notice.{Notice}

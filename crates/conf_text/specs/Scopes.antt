@@ -5,7 +5,8 @@ use Rattle.net_types.specs.declared.address.Ip4.{Ip4}
 use Rattle.net_types.specs.declared.address.Net4.{Net4}
 use Rattle.net_types.specs.declared.address.Net6.{Net6}
 use Rattle.conf_directives.specs.declared.names.CodeList.TheVariants.{Asked, Refused, Required}
-use Rattle.conf_directives.specs.Contents.{DirectiveContent, IdentifierContent, CodesContent, StaticContent, Address, Routers, NameServers, DomainName, DomainSearch, Address6, IaContent, EnvContent}
+use Rattle.conf_directives.specs.Contents.{DirectiveContent, IdentifierContent, CodesContent, StaticContent, Address, Routers, NameServers, DomainName, DomainSearch, Address6, IaContent}
+use Rattle.conf_values.specs.Texts.{EnvContent}
 use Rattle.settings.specs.declared.flags.Flags.{Flags}
 use Rattle.conf_text.specs.declared.times.TimesSaid.{TimesSaid}
 use Rattle.conf_text.specs.Flags.{flags_of}

@@ -12,7 +12,8 @@ use Rattle.settings.specs.Dhcp6Settings.{Dhcp6Settings}
 use Rattle.settings.specs.Flags.{either}
 use Rattle.settings.specs.HookSettings.{HookSettings, ScriptContent, Nothing, Default, At}
 use Rattle.settings.specs.ResolverSettings.{ResolverSettings}
-use Rattle.conf_directives.specs.Contents.{EnvContent, IdentifierContent, Hardware, Bytes, Duid}
+use Rattle.conf_directives.specs.Contents.{IdentifierContent, Hardware, Bytes, Duid}
+use Rattle.conf_values.specs.Texts.{EnvContent}
 use Rattle.conf_text.specs.Associations.{ias_of}
 use Rattle.conf_text.specs.Scopes.{ScopeContent, StaticsContent}
 use Rattle.conf_text.specs.Choosing.{is_managed, scope_for}

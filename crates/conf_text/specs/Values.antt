@@ -9,8 +9,9 @@ use Rattle.conf_directives.specs.declared.names.CodeList.{CodeList}
 use Rattle.conf_directives.specs.declared.names.CodeList.TheVariants.{Asked, Refused, Required}
 use Rattle.conf_directives.specs.declared.names.InterfaceList.{InterfaceList}
 use Rattle.conf_directives.specs.declared.names.InterfaceList.TheVariants.{Allowed, Denied}
-use Rattle.conf_directives.specs.declared.values.Pattern.{Pattern}
-use Rattle.conf_directives.specs.Contents.{DirectiveContent, Flag, Seconds, Metric, HostName, VendorClass, ClientIs, Codes, Static, Ia, Variable, Blacklist, Interfaces, Script, IdentifierContent, CodesContent, StaticContent, IaContent, EnvContent}
+use Rattle.conf_values.specs.declared.patterns.Pattern.{Pattern}
+use Rattle.conf_directives.specs.Contents.{DirectiveContent, Flag, Seconds, Metric, HostName, VendorClass, ClientIs, Codes, Static, Ia, Variable, Blacklist, Interfaces, Script, IdentifierContent, CodesContent, StaticContent, IaContent}
+use Rattle.conf_values.specs.Texts.{EnvContent}
 
 -- of single values the last counts
 abbrev pub last_of : {X Y : Type 0} → (X → Option Y) → List X → Option Y

@@ -9,7 +9,7 @@ ghost use Rattle.conf_text.specs.Values.{first_said};
 use crate::block_name::is_named;
 use crate::blocks::said_of;
 use crate::conf::Conf;
-use conf_directives::Pattern;
+use conf_values::Pattern;
 use net_types::{IfSpec, Name};
 
 #[tactic(auto, unfolding(net_types::specs::NameText::name_text))]

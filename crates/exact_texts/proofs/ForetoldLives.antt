@@ -21,11 +21,11 @@ use Rattle.safe_texts.specs.ResolverLines.{AreOctets}
 use Rattle.exact_texts.proofs.ExactLives.{configured_jobs_are_exact}
 use Rattle.exact_texts.specs.ExactJobs.{ForetoldJobsAreExact}
 
-abbrev BringsBytes : Given → Type 0
+abbrev pub BringsBytes : Given → Type 0
 BringsBytes given = AreBytes given.bytes
 
 -- a frame that is cut to the room for it is bytes too
-told_octets : (managed : List Managed) (coming : List Given) (life : Life) (world : World) → AllByRecursion BringsBytes coming
+pub told_octets : (managed : List Managed) (coming : List Given) (life : Life) (world : World) → AllByRecursion BringsBytes coming
     → AreOctets (told_turns managed life world coming)
 told_octets managed [] life world octets = tt
 told_octets managed (given ∷ coming) life world octets =

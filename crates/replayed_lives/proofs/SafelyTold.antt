@@ -1,19 +1,16 @@
 -- In each life hooks and the resolver are told texts that are safe to read, and variables that are what their names say.
-use Rattle.std.proofs.Common.{ℕ, Bool, true, false, cond, List, [], ◌∷◌, length, refl, sym, subst, Ok}
-use Rattle.std.specs.Prelude.{◌||◌}
+use Rattle.std.proofs.Common.{ℕ, List, ◌∷◌, length, refl, sym, subst, Ok}
 use Rattle.std.specs.List.{AllByRecursion}
 use Rattle.std.proofs.lemmas.List.Elements.{recursion_from_All}
 use Rattle.net_types.specs.declared.interface.IfSpec.{IfSpec}
-use Rattle.net_types.proofs.Checksum.{take_bytes}
-use Rattle.world.specs.LinkCalls.{Given, frame_len}
 use Rattle.settings.specs.declared.interfaces.Managed.{Managed}
 use Rattle.script_model.specs.ScriptTexts.{ScriptLines, LifeScript}
 use Rattle.script_model.specs.Scripts.{FitInterfaces, FitsScript, FitsLife}
 use Rattle.device_calls.specs.Worlds.{World, Ran}
 use Rattle.device_calls.proofs.Running.{run_coming, run_makes}
-use Rattle.turn_model.specs.Foretold.{foretold_life, met_of, ran_opening, ran_turn, told_turns, told_wake}
+use Rattle.turn_model.specs.Foretold.{foretold_life, ran_opening}
 use Rattle.turn_model.specs.Opening.{opening_asks}
-use Rattle.turn_model.specs.Turns.{Life, is_end, is_over}
+use Rattle.turn_model.specs.Turns.{Life}
 use Rattle.conf_text.specs.Configurations.{Configuration, IsConfOf}
 use Rattle.conf_text.specs.Settings.{managed_of}
 use Rattle.daemon.proofs.FileEvidence.StoreRuns.{told_are_turns}
@@ -23,28 +20,13 @@ use Rattle.daemon.proofs.SafeTexts.ConfiguredLives.{configured_lives_are_lives, 
 use Rattle.daemon.proofs.SafeTexts.LifeJobs.{life_jobs_are_safe}
 use Rattle.daemon.proofs.SafeTexts.LifeLines.{written_lines_are_safe}
 use Rattle.daemon.proofs.ExactTexts.ExactLives.{configured_jobs_are_exact}
+use Rattle.daemon.proofs.ExactTexts.ForetoldLives.{told_octets}
 use Rattle.text_works.specs.SpelledScripts.{IsScript, configuration_text, managed_in}
 use Rattle.replayed_lives.specs.Replays.{failing_in, at_first, Failing, Between, world_in, after_life}
 use Rattle.replayed_lives.specs.Sound.{BringsBytes}
 use Rattle.replayed_lives.specs.ToldSafely.{TellsSafely, AllTellSafely}
 use Rattle.replayed_lives.proofs.HostRightly.{life_octets}
 use Rattle.text_works.proofs.Refusals.{each_fits, spelled_fits, ifaces_fit}
-
--- what the turns heard is bytes
-told_octets : (managed : List Managed) (coming : List Given) (life : Life) (world : World) → AllByRecursion BringsBytes coming
-    → AreOctets (told_turns managed life world coming)
-told_octets managed [] life world octets = tt
-told_octets managed (given ∷ coming) life world octets =
-    by (is_over life || is_end given.wake.event)
-    (take_bytes (frame_len (told_wake given).event) given.bytes octets.0, told_octets managed coming ran.result ran.world octets.1)
-  where
-    ran : Ran Life
-    ran = ran_turn managed life world given
-
-    by : (b : Bool) → AreOctets (met_of given ran ∷ told_turns managed ran.result ran.world coming)
-        → AreOctets (cond b [] (met_of given ran ∷ told_turns managed ran.result ran.world coming))
-    by true rest = tt
-    by false rest = rest
 
 module _ (text : List ℕ) (conf : Configuration) (is : IsConfOf text (Ok conf)) (specs : List IfSpec) (fits : FitInterfaces specs) where
   abbrev managed : List Managed

@@ -111,23 +111,23 @@ octets_join mets more one other = all_join (λ (met : Met). AreBytes met.bytes) 
 
 -- ---- a life of whole turns
 
-abbrev IsWait : Call → Type 0
+abbrev pub IsWait : Call → Type 0
 IsWait (Link (Waited asked given)) = Unit {0}
 IsWait call = ⊥
 
 -- Its calls begin with these, but for waits at their end that began no turn.
-record IsFrontOf (managed : List Managed) (specs : List IfSpec) (calls : List Call) : Type 0 where
-  opening : OpeningMet
-  mets : List Met
-  opens : IsOpening managed specs opening
-  turns : AreTurns managed opening.life mets
-  octets : AllByRecursion GivesBytes calls → AreOctets mets
-  firsts : List Call
-  rest : List Call
-  waits : List Call
-  calls_are : calls ≡ firsts ++ waits
-  whole_is : opening.calls ++ turns_calls opening.life mets ≡ firsts ++ rest
-  each_waits : AllByRecursion IsWait waits
+pub record IsFrontOf (managed : List Managed) (specs : List IfSpec) (calls : List Call) : Type 0 where
+  pub opening : OpeningMet
+  pub mets : List Met
+  pub opens : IsOpening managed specs opening
+  pub turns : AreTurns managed opening.life mets
+  pub octets : AllByRecursion GivesBytes calls → AreOctets mets
+  pub firsts : List Call
+  pub rest : List Call
+  pub waits : List Call
+  pub calls_are : calls ≡ firsts ++ waits
+  pub whole_is : opening.calls ++ turns_calls opening.life mets ≡ firsts ++ rest
+  pub each_waits : AllByRecursion IsWait waits
 
 in_opening : (managed : List Managed) (specs : List IfSpec) (begin : Begin) (calls : List Call) → Fronts (opening_asks managed specs begin) calls
     → IsFrontOf managed specs calls
@@ -228,7 +228,7 @@ module _ (managed : List Managed) (specs : List IfSpec) (opening : OpeningMet) (
           (sym (ap₂ (λ (c : Call) (cs : List Call). c ∷ cs) fails.0 fails.1)) (only_waits (Link (Waited (until upto) None) ∷ []) (tt, tt))
       by (inr begins) = in_turn call calls front.0 begins
 
-life_front : (managed : List Managed) (specs : List IfSpec) (calls : List Call) → FrontOfLife managed specs calls → IsFrontOf managed specs calls
+pub life_front : (managed : List Managed) (specs : List IfSpec) (calls : List Call) → FrontOfLife managed specs calls → IsFrontOf managed specs calls
 life_front managed specs calls (inl opening) = in_opening managed specs opening.begin calls opening.front
 life_front managed specs calls (inr life) =
     subst (IsFrontOf managed specs) (sym life.calls_are) (in_turns managed specs life.opening life.mets life.opens life.turns life.last life.front)
@@ -246,7 +246,7 @@ each_of P waiting (Hook number call ∷ waits) each = absurd each.0
 each_of P waiting (Dropped job ∷ waits) each = absurd each.0
 
 module _ (managed : List Managed) (specs : List IfSpec) (calls : List Call) (is : IsFrontOf managed specs calls) where
-  calls_all : (P : Call → Type 0) → ((asked : Option ℕ) (given : Option Given) → P (Link (Waited asked given)))
+  pub calls_all : (P : Call → Type 0) → ((asked : Option ℕ) (given : Option Given) → P (Link (Waited asked given)))
       → AllByRecursion P (is.opening.calls ++ turns_calls is.opening.life is.mets) → AllByRecursion P calls
   calls_all P waiting all =
       subst (AllByRecursion P) (sym is.calls_are)

@@ -12,7 +12,8 @@ use Rattle.settings.specs.HookSettings.{Nothing, Default, At}
 use Rattle.conf_words.specs.Directives.{Directive}
 use Rattle.conf_directives.specs.declared.names.HeadingName.{HeadingName}
 use Rattle.conf_directives.specs.declared.names.HeadingName.TheVariants.{Interface, Profile, Ssid}
-use Rattle.conf_directives.specs.Contents.{DirectiveContent, EnvContent, NameServers, SaidContent, Script, Static, StaticContent, Variable, noticed}
+use Rattle.conf_directives.specs.Contents.{DirectiveContent, NameServers, SaidContent, Script, Static, StaticContent, Variable, noticed}
+use Rattle.conf_directives.specs.ConfValues.Texts.{EnvContent}
 use Rattle.conf_directives.specs.Names.{directive_at, heading_at}
 use Rattle.conf_text.specs.Choosing.{is_managed, scope_for}
 use Rattle.conf_text.specs.Configurations.{BlockContent, Configuration, block_of, configured}

@@ -19,17 +19,18 @@ use Rattle.conf_directives.specs.declared.names.DirectiveName.{DirectiveName}
 use Rattle.conf_directives.specs.declared.names.DirectiveName.TheVariants as names
 use Rattle.conf_directives.specs.declared.names.ValueName.{ValueName}
 use Rattle.conf_directives.specs.declared.names.ValueName.TheVariants as values
-use Rattle.conf_directives.specs.declared.texts.TheConstants.{TEXT_LIMIT}
+use Rattle.conf_directives.specs.ConfValues.declared.texts.TheConstants.{TEXT_LIMIT}
 use Rattle.conf_directives.specs.Codes.{are_right, codes_of, codes_said}
-use Rattle.conf_directives.specs.Contents.{Address, Address6, Blacklist, ClientIs, DirectiveContent, DomainName, DomainSearch, Duid, EnvContent, Flag, HostName, Ia, Interfaces, Metric, NameServers, Routers, SaidContent, Script, Seconds, Static, StaticContent, Variable, VendorClass, noticed, taken}
+use Rattle.conf_directives.specs.Contents.{Address, Address6, Blacklist, ClientIs, DirectiveContent, DomainName, DomainSearch, Duid, Flag, HostName, Ia, Interfaces, Metric, NameServers, Routers, SaidContent, Script, Seconds, Static, StaticContent, Variable, VendorClass, noticed, taken}
+use Rattle.conf_directives.specs.ConfValues.Texts.{EnvContent}
 use Rattle.conf_directives.specs.Names.{named}
-use Rattle.conf_directives.specs.Nets.{own_net, server_net}
-use Rattle.conf_directives.specs.Patterns.{pattern}
+use Rattle.conf_directives.specs.ConfValues.Nets.{own_net, server_net}
+use Rattle.conf_directives.specs.ConfValues.Patterns.{pattern}
 use Rattle.conf_directives.specs.Says.{SaysNamed, client_id, host_said, ia_said, value_said, vendor_class}
 use Rattle.conf_directives.specs.Shares.{addresses, are_planned, asked_by, left_over, prefix, prefix_by, share}
 use Rattle.conf_directives.specs.Statics.{is_key, named_value, only_name, static_by, static_rows, static_said}
-use Rattle.conf_directives.specs.Texts.{domain_name, domain_names, equals_sign, is_printed, printed, variable, variable_by, variable_of}
-use Rattle.conf_directives.specs.Words.{is_some_text, members_of, one_or_more, only, options_of, slash_parts}
+use Rattle.conf_directives.specs.ConfValues.Texts.{domain_name, domain_names, equals_sign, is_printed, printed, variable, variable_by, variable_of}
+use Rattle.conf_directives.specs.ConfValues.Words.{is_some_text, members_of, one_or_more, only, options_of, slash_parts}
 
 -- ---- what a reading gives
 

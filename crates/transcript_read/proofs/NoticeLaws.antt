@@ -35,8 +35,8 @@ use Rattle.conf_directives.specs.Names.{directive_at, heading_at, named}
 use Rattle.conf_directives.specs.Says.{SaysNamed, host_said, ia_said, value_said}
 use Rattle.conf_directives.specs.Shares.{addresses, are_planned, asked_by, fourth_part, left_over, prefix, prefix_by, share}
 use Rattle.conf_directives.specs.Statics.{is_key, named_value, static_by, static_rows, static_said, value_of}
-use Rattle.conf_directives.specs.Texts.{domain_name, equals_sign}
-use Rattle.conf_directives.specs.Words.{HasArguments, is_some_text, members_of, options_of, parts_options, slash, slash_parts}
+use Rattle.conf_directives.specs.ConfValues.Texts.{domain_name, equals_sign}
+use Rattle.conf_directives.specs.ConfValues.Words.{HasArguments, is_some_text, members_of, options_of, parts_options, slash, slash_parts}
 use Rattle.conf_text.specs.Configurations.{Configuration, IsConfOf, NoticeContent, configured, notice_of, notices_of}
 use Rattle.conf_text.specs.Numbering.{line_number}
 use Rattle.conf_text.specs.Places.{Block, Global, Place, Skipped}

@@ -1,30 +1,19 @@
 -- Leases that items go from are within the bounds of their text.
-use Rattle.std.proofs.Common.{◌≡◌, ℕ, ◌+◌, ◌<◌, ◌^◌, true, List, [], ◌∷◌, ◌++◌, Option, Some, None, IfSome, option_map, unwrap_or, refl, arith, lit<}
+use Rattle.std.proofs.Common.{ℕ, List, [], ◌∷◌, Option, Some, None, IfSome, option_map, refl}
 use Rattle.std.specs.List.{AllByRecursion}
-use Rattle.net_types.specs.Moments.{IsMoment}
-use Rattle.net_types.proofs.AllLaws.{all_join, all_map}
-use Rattle.net_types.proofs.CaseLaws.{gated, split}
-use Rattle.v6_options.specs.declared.code.TheConstants.{DNS_SERVERS, DOMAIN_LIST}
-use Rattle.lease6_text.specs.LeaseText.Bounds.{IsRising}
-use Rattle.lease6_text.specs.LeaseText.Leases.{ValueContent}
-use Rattle.lease6_text.specs.Bounds.{FitsIa, FitsIas, FitsItem, FitsLease6, FitsMoment, FitsValue6, FitsValues6}
+use Rattle.net_types.proofs.CaseLaws.{gated}
+use Rattle.lease6_text.specs.Bounds.{FitsIa, FitsLease6}
 use Rattle.lease6_text.specs.Leases.{IaLeaseContent, Lease6Content}
-use Rattle.lease6_text.specs.ValueForms.{is_kept6, is_well_formed6}
-use Rattle.v6_items.specs.declared.renewing.Spans6.{Spans6}
 use Rattle.v6_items.specs.declared.asks.IaAsk.{IaAsk}
 use Rattle.v6_items.specs.declared.scope.Cause6.{Cause6}
 use Rattle.v6_items.specs.declared.scope.Cause6.TheVariants.{Lapse}
 use Rattle.v6_items.specs.declared.scope.Parting6.{Parting6}
 use Rattle.v6_items.specs.Bounds.{FitsAsks, ask_key}
 use Rattle.v6_client.specs.Calls.{pruned_lease}
-use Rattle.v6_items.specs.Items.{asked_at, ias_of, pruned_ia, staying, stays_in}
+use Rattle.v6_items.specs.Items.{asked_at, pruned_ia, staying, stays_in}
 use Rattle.v6_client.specs.Moves.{kept_left, thinned_lease}
-use Rattle.v6_items.specs.Reading.{ia_for, saids_of}
-use Rattle.v6_items.specs.Renewing.{AreShort, raised}
-use Rattle.v6_items.specs.Taking.{Meeting, ia_granted, ias_granted, item_from, t1_granted, t1_of, t2_granted, t2_of, taken_by, value_granted}
-use Rattle.v6_items.specs.Times.{earlier}
 use Rattle.v6_items.proofs.FitsLists.{IsPiece, filter_fits, pieces_fit, with_is_piece, without_fits}
-use Rattle.v6_items.proofs.TakenFits.{had_fit, ia_fits}
+use Rattle.v6_items.proofs.TakenFits.{had_fit}
 
 -- ---- steps
 

@@ -1,9 +1,8 @@
 -- The times of a client, in milliseconds; moments are in milliseconds since 1970.
-use Rattle.std.specs.Prelude.{ℕ, ◌+◌, ◌-◌, ◌*◌, ◌/◌, ◌≤◌, min, Option, Some, None, ◌==◌, if◌then◌else◌}
+use Rattle.std.specs.Prelude.{ℕ, ◌-◌, ◌/◌, ◌≤◌, min, if◌then◌else◌}
 use Rattle.net_types.specs.Moments.{IsMoment}
 use Rattle.machine.specs.Draw.{draw_of}
 use Rattle.v6_client.specs.declared.times.TheConstants.{DELAY_SPREAD}
-use Rattle.v6_items.specs.declared.times.TheConstants.{SECOND, FOREVER}
 use Rattle.v6_client.specs.declared.turn.Turn6.{Turn6}
 
 -- the limits within which turns come

@@ -1,6 +1,6 @@
 use Rattle.std.proofs.Common.{◌≡◌, ◌++◌, map, take}
 use Rattle.world.specs.HookCalls.{variable_of}
-use Rattle.conf_directives.specs.Contents.{env_content}
+use Rattle.conf_values.specs.Texts.{env_content}
 use Rattle.conf_text.specs.Settings.{variable_said}
 use Rattle.conf_text.proofs.hooks.add_env.Given as goal
 

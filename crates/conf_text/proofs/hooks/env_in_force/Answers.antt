@@ -1,8 +1,8 @@
 use Rattle.std.proofs.Common.{List, ◌++◌, map, ap, ◌∙◌}
 use Rattle.world.specs.declared.hooking.HookVar.{HookVar}
 use Rattle.world.specs.HookCalls.{Variable, variable_of}
-use Rattle.conf_directives.specs.declared.values.Env.{Env}
-use Rattle.conf_directives.specs.Contents.{env_content}
+use Rattle.conf_values.specs.declared.texts.Env.{Env}
+use Rattle.conf_values.specs.Texts.{env_content}
 use Rattle.conf_text.specs.Settings.{variable_said}
 use Rattle.conf_text.proofs.ListLaws.{mapped_both}
 use Rattle.conf_text.proofs.hooks.env_in_force.Goals as goal

@@ -1,0 +1,5 @@
+pub mod Words
+pub mod Texts
+pub mod Identifiers
+pub mod Patterns
+pub mod Nets
