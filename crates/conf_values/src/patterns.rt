@@ -26,7 +26,7 @@ fn beginning(text: &[u8]) -> Option<Pattern>
     Some(Pattern::Beginning(name_of(text)?))
 }
 
-fn pattern(word: &[u8]) -> Option<Pattern>
+fn pattern_of(word: &[u8]) -> Option<Pattern>
     ensures { result ≡ pattern word.now }
 {
     match word {
@@ -41,6 +41,6 @@ impl Word for Pattern {
     ghost spelled = { pattern };
 
     fn of_word(_alloc: Global, word: &[u8]) -> Result<Option<Pattern>, NoMemory> {
-        Ok(pattern(word))
+        Ok(pattern_of(word))
     }
 }
