@@ -25,7 +25,7 @@ use Rattle.replayed_lives.specs.TextWorks.SpelledScripts.{configuration_text, ma
 use Rattle.replayed_lives.specs.Replays.{transcript}
 use Rattle.replayed_lives.specs.TextWorks.Settling.{IsSettledAs}
 use Rattle.replayed_lives.specs.TextWorks.Statuses.{HasStatusCause, StopsWriting, Completes}
-use Rattle.replayed_lives.proofs.TextWorks.AskedApart.{asked_apart}
+use Rattle.asked_works.proofs.AskedApart.{asked_apart}
 use Rattle.replayed_lives.proofs.TextWorks.Endings.{stops_writing}
 use Rattle.replayed_lives.proofs.TextWorks.Refusals.{in_force}
 

@@ -9,7 +9,7 @@ use Rattle.replayed_lives.specs.TextWorks.Dumping.{dumping}
 use Rattle.replayed_lives.specs.TextWorks.Importing.{importing}
 use Rattle.replayed_lives.specs.TextWorks.Labs.{lab_work}
 use Rattle.replayed_lives.specs.Replaying.{TellsScript}
-use Rattle.replayed_lives.specs.TextWorks.Words.{AskReplay, AskCheck, AskDump, AskLab, AskLive, AsksImport}
+use Rattle.asked_works.specs.Words.{AskReplay, AskCheck, AskDump, AskLab, AskLive, AsksImport}
 use Rattle.replayed_lives.specs.TextWorks.Works.{Serves}
 
 -- `replay` is asked for, and the input tells a script

@@ -1,3 +1,4 @@
+pub mod Usage
 pub mod HeldThrough
 pub mod GoodAsks
 pub mod Making

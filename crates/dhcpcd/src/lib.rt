@@ -5,6 +5,7 @@ mod living;
 mod making;
 mod running;
 
+pub use asked_works::is_alone;
 pub use daemon::{Devices, ServeEnd, serve};
-pub use replayed_lives::{Status, hooks_change_nothing, is_alone, labs_hold_apart, write_text};
+pub use replayed_lives::{Status, hooks_change_nothing, labs_hold_apart, write_text};
 pub use running::run;

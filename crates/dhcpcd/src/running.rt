@@ -17,14 +17,15 @@ ghost use Rattle.dhcpcd.specs.Living.{IsAnsweredLive, CompletesLife, HasLinkCaus
 ghost use Rattle.replayed_lives.specs.TextWorks.Statuses.{HasStatusCause, Completes};
 ghost use Rattle.replayed_lives.specs.Replaying.{IsAnswer};
 ghost use Rattle.dhcpcd.specs.Making.{IsMadeAnswer};
-ghost use Rattle.replayed_lives.specs.TextWorks.Words.{AskAudit, AskCheck, AskDump, AskLab, AskReplay, AskLive, AskMake, AskWhy, AsksImport, AsksMake, AskWork, IsUsage};
+ghost use Rattle.asked_works.specs.Words.{AskAudit, AskCheck, AskDump, AskLab, AskReplay, AskLive, AskMake, AskWhy, AsksImport, AsksMake, AskWork};
+ghost use Rattle.dhcpcd.specs.Usage.{IsUsage};
 
 use crate::living::live;
 use crate::making::make;
+use asked_works::{Work, work_of};
 use daemon::Outside;
 use replayed_lives::{
-    Status, Work, audit_transcript, check, dump_lease, explain_transcript, import_capture, lab,
-    replay, work_of,
+    Status, audit_transcript, check, dump_lease, explain_transcript, import_capture, lab, replay,
 };
 use std::alloc::Global;
 use world::{NoMemory, Sink, Source};

@@ -10,7 +10,7 @@ mod replaying;
 pub use laws::hooks_change_nothing;
 pub use replaying::{replay, write_transcript};
 pub use text_works::{
-    Settled, Start, Status, Work, audit_transcript, check, dump_lease, explain_transcript,
-    import_capture, is_alone, lab, labs_hold_apart, read_all, read_configuration, settle_script,
-    work_of, write_live_head, write_text,
+    Settled, Start, Status, audit_transcript, check, dump_lease, explain_transcript,
+    import_capture, lab, labs_hold_apart, read_all, read_configuration, settle_script,
+    write_live_head, write_text,
 };

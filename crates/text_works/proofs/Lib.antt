@@ -3,8 +3,6 @@ pub mod Endings
 pub mod WorkLaws
 pub mod HeadLines
 pub mod Inputs
-pub mod OneWord
-pub mod AskedApart
 pub mod CheckTexts
 pub mod InputWorks
 pub mod Refusals
@@ -12,7 +10,5 @@ pub mod ManagedApart
 pub mod LabsApart
 pub mod AuditLaws
 pub mod SharesApart
-pub mod MakeLaws
-pub mod ImportLaws
 pub use Rattle.audit_reasons.proofs.Evidence
 pub use Rattle.lab_laws.proofs.LeaseEvidence

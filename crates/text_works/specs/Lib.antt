@@ -11,8 +11,4 @@ pub mod Importing
 pub mod Labs
 pub mod LabsHeld
 pub mod Auditing
-pub mod Words
-pub mod MakeReading
-pub mod ImportReading
-pub mod Asked
 pub use Rattle.audit_reasons.specs.Evidence

@@ -8,17 +8,10 @@ ghost use Rattle.text_works.specs.Works.{Serves};
 
 use crate::status::Status;
 use crate::working::{Finding, TextWork, perform};
+use asked_works::Import;
 use capture_script::{ImportAnswer, import};
-use net_types::{Mac, Name};
 use std::alloc::Global;
 use world::{Sink, Source};
-
-/// `import`: the script of the capture that the bytes are, with the interface on which it was taken.
-#[derive(Clone, Copy)]
-pub struct Import {
-    pub name: Name,
-    pub mac: Mac,
-}
 
 impl TextWork for Import {
     ghost work = { λ self. importing (spec_of self.name self.mac) };

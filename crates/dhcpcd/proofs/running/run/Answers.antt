@@ -1,13 +1,13 @@
 use Rattle.std.proofs.Common.{ℕ, List, map, rules, subst, sym}
 use Rattle.std.specs.String.{string_bytes}
 use Rattle.capture_script.specs.CapturedScripts.{spec_of}
-use Rattle.replayed_lives.specs.TextWorks.declared.importing.Import.{Import}
+use Rattle.asked_works.specs.declared.words.Import.{Import}
 use Rattle.replayed_lives.specs.TextWorks.Importing.{IsImportAnswer, importing}
 use Rattle.dhcpcd.specs.Making.{IsMadeAnswer}
-use Rattle.replayed_lives.specs.TextWorks.Words.{AsksImport, AsksMake}
+use Rattle.asked_works.specs.Words.{AsksImport, AsksMake}
 use Rattle.replayed_lives.specs.TextWorks.Works.{Serves}
-use Rattle.replayed_lives.proofs.TextWorks.ImportLaws.{import_is_one}
-use Rattle.replayed_lives.proofs.TextWorks.MakeLaws.{rounds_are_one}
+use Rattle.asked_works.proofs.ImportLaws.{import_is_one}
+use Rattle.asked_works.proofs.MakeLaws.{rounds_are_one}
 use Rattle.dhcpcd.proofs.running.run.Goals as goal
 
 pub returns-in-Ok-Some-Make-clause-made : goal.returns-in-Ok-Some-Make-clause-made

@@ -6,8 +6,8 @@ use Rattle.std.proofs.lemmas.Slice.Eq.{bytes_eq-Decides}
 use Rattle.net_types.specs.Reads.{Reads}
 use Rattle.net_types.proofs.ReadsLaws.{same_range, guard_reads, some_same}
 use Rattle.net_types.proofs.NumberLaws.{number_reads}
-use Rattle.text_works.specs.Words.{AsksMake}
-use Rattle.text_works.specs.MakeReading.{rounds_at, make_at, IsMakeRead}
+use Rattle.asked_works.specs.Words.{AsksMake}
+use Rattle.asked_works.specs.MakeReading.{rounds_at, make_at, IsMakeRead}
 
 abbrev are_rounds : ℕ → Type 0
 are_rounds rounds = (1 ≤ rounds) × (rounds ≤ 100)

@@ -5,8 +5,8 @@ use Rattle.net_types.specs.declared.interface.Name.{Name}
 use Rattle.net_types.specs.AddressText.{mac_at}
 use Rattle.net_types.specs.Cutting.{◌>>=◌}
 use Rattle.net_types.specs.NameText.{name_at}
-use Rattle.text_works.specs.declared.importing.Import.{Import}
-use Rattle.text_works.specs.Words.{AsksImport}
+use Rattle.asked_works.specs.declared.words.Import.{Import}
+use Rattle.asked_works.specs.Words.{AsksImport}
 
 -- on which interface the capture was taken
 unfoldable pub taken_on_at : (name mac : List ℕ) → Option Import

@@ -5,7 +5,7 @@ use Rattle.net_types.specs.declared.address.Mac.{Mac}
 use Rattle.net_types.specs.declared.interface.IfSpec.{IfSpec}
 use Rattle.net_types.specs.declared.interface.Name.{Name}
 use Rattle.live_words.specs.LiveWords.{AsksLive}
-use Rattle.text_works.specs.Words.{AskAudit, AskReplay, AskCheck, AskDump, AskImport, AskLab, AskLive, AskMake, AskWhy, AsksImport, AsksMake, AskWork}
+use Rattle.asked_works.specs.Words.{AskAudit, AskReplay, AskCheck, AskDump, AskImport, AskLab, AskLive, AskMake, AskWhy, AsksImport, AsksMake, AskWork}
 
 first_word : List (List ℕ) → List ℕ
 first_word [] = []

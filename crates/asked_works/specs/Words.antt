@@ -5,9 +5,7 @@ use Rattle.net_types.specs.declared.interface.IfSpec.{IfSpec}
 use Rattle.net_types.specs.declared.interface.Name.{Name}
 use Rattle.net_types.specs.AddressText.{FitsMac, mac_text}
 use Rattle.net_types.specs.NameText.{FitsName, name_text}
-use Rattle.live_words.specs.LiveWords.{AsksLive, BeginsLive}
-use Rattle.text_works.specs.declared.status.Status.{Status}
-use Rattle.text_works.specs.declared.status.Status.TheVariants as status
+use Rattle.live_words.specs.LiveWords.{AsksLive}
 
 -- the words are `replay` alone
 abbrev pub AskReplay : List (List ℕ) → Type 0
@@ -62,9 +60,3 @@ AskWork words =
     ⊎ (AskCheck words
     ⊎ (AskLive words
     ⊎ (AskMake words ⊎ (AskDump words ⊎ (AskImport words ⊎ (AskLab words ⊎ (AskAudit words ⊎ AskWhy words)))))))
-
--- what words of none of these forms are answered; only those that begin with `live` may want memory
-abbrev pub IsUsage : List (List ℕ) → Status → Type 0
-IsUsage words status.Usage = Unit {0}
-IsUsage words status.NoMemory = BeginsLive words
-IsUsage words other = ⊥

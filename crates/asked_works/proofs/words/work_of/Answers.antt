@@ -1,10 +1,10 @@
 use Rattle.std.proofs.Common.{◌≡◌, List, ℕ, None, map, rules, sym, subst, ◌∙◌}
 use Rattle.std.specs.String.{string_bytes}
 use Rattle.live_words.specs.LiveWords.{IsLiveRead}
-use Rattle.text_works.specs.ImportReading.{IsImportRead}
-use Rattle.text_works.specs.MakeReading.{IsMakeRead}
-use Rattle.text_works.proofs.AskedApart.{true_false, none_asked}
-use Rattle.text_works.proofs.words.work_of.Goals as goal
+use Rattle.asked_works.specs.ImportReading.{IsImportRead}
+use Rattle.asked_works.specs.MakeReading.{IsMakeRead}
+use Rattle.asked_works.proofs.AskedApart.{true_false, none_asked}
+use Rattle.asked_works.proofs.words.work_of.Goals as goal
 
 pub returns-in-None-clause-asked : goal.returns-in-None-clause-asked
 returns-in-None-clause-asked c =

@@ -1,9 +1,9 @@
 -- The work that words ask for.
 use Rattle.std.specs.Prelude.{ℕ, List, Option, Some, None}
-use Rattle.text_works.specs.declared.words.Work.{Work}
-use Rattle.text_works.specs.declared.words.Work.TheVariants as work
+use Rattle.asked_works.specs.declared.words.Work.{Work}
+use Rattle.asked_works.specs.declared.words.Work.TheVariants as work
 use Rattle.live_words.specs.LiveWords.{AsksLive}
-use Rattle.text_works.specs.Words.{AskReplay, AskCheck, AskAudit, AskDump, AskLab, AskWhy, AsksImport, AsksMake, AskWork}
+use Rattle.asked_works.specs.Words.{AskReplay, AskCheck, AskAudit, AskDump, AskLab, AskWhy, AsksImport, AsksMake, AskWork}
 
 abbrev pub AsksFor : List (List ℕ) → Option Work → Type 0
 AsksFor words (Some work.Replay) = AskReplay words

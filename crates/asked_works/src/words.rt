@@ -2,16 +2,22 @@
 ghost use Rattle.std.specs.Prelude.{◌≡◌, [], ◌∷◌, true, map, IfOk, IfErr};
 ghost use Rattle.std.specs.String.{string_bytes};
 ghost use Rattle.live_words.specs.LiveWords.{BeginsLive, IsLiveRead};
-ghost use Rattle.text_works.specs.Asked.{AsksFor};
-ghost use Rattle.text_works.specs.ImportReading.{IsImportRead, import_at, taken_on_at};
-ghost use Rattle.text_works.specs.MakeReading.{IsMakeRead, make_at, rounds_at};
+ghost use Rattle.asked_works.specs.Asked.{AsksFor};
+ghost use Rattle.asked_works.specs.ImportReading.{IsImportRead, import_at, taken_on_at};
+ghost use Rattle.asked_works.specs.MakeReading.{IsMakeRead, make_at, rounds_at};
 
-use crate::importing::Import;
 use live_words::{Interfaces, LiveWords, read_live};
 use made_script::MOST_ROUNDS;
-use net_types::{mac_of, name_of, number_of};
+use net_types::{Mac, Name, mac_of, name_of, number_of};
 use std::alloc::Global;
 use world::NoMemory;
+
+/// On which interface a capture of packets was taken.
+#[derive(Clone, Copy)]
+pub struct Import {
+    pub name: Name,
+    pub mac: Mac,
+}
 
 /// A work of the top call.
 #[derive(Drop)]

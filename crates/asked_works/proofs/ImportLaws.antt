@@ -8,9 +8,9 @@ use Rattle.net_types.specs.NameText.{FitsName, name_at, name_text}
 use Rattle.net_types.proofs.AddressLaws.{mac_reads}
 use Rattle.net_types.proofs.NameLaws.{name_reads}
 use Rattle.net_types.proofs.ReadsLaws.{passed, some_same}
-use Rattle.text_works.specs.declared.importing.Import.{Import}
-use Rattle.text_works.specs.Words.{AsksImport}
-use Rattle.text_works.specs.ImportReading.{import_at, taken_on_at, IsImportRead}
+use Rattle.asked_works.specs.declared.words.Import.{Import}
+use Rattle.asked_works.specs.Words.{AsksImport}
+use Rattle.asked_works.specs.ImportReading.{import_at, taken_on_at, IsImportRead}
 
 record Taken (name mac : List ℕ) (on : Import) : Type 0 where
   named : (name ≡ name_text on.name) × FitsName on.name

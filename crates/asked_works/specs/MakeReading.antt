@@ -2,7 +2,7 @@
 use Rattle.std.specs.Prelude.{ℕ, nat_le, List, [], ◌∷◌, Option, Some, None, bytes_eq, codes, if◌then◌else◌}
 use Rattle.net_types.specs.Cutting.{guarded}
 use Rattle.net_types.specs.Numbers.{number_at}
-use Rattle.text_works.specs.Words.{AsksMake}
+use Rattle.asked_works.specs.Words.{AsksMake}
 
 unfoldable pub rounds_at : List ℕ → Option ℕ
 rounds_at word = guarded (λ rounds. nat_le 1 rounds) (number_at 101 word)

@@ -1,0 +1,4 @@
+pub mod OneWord
+pub mod AskedApart
+pub mod MakeLaws
+pub mod ImportLaws

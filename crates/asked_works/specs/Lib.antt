@@ -1,0 +1,4 @@
+pub mod Words
+pub mod MakeReading
+pub mod ImportReading
+pub mod Asked
