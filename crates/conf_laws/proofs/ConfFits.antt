@@ -22,10 +22,10 @@ use Rattle.conf_text.specs.Faults.{names_in}
 use Rattle.conf_text.specs.Fits.{AreInForce, FitsSpec, SettingsFit}
 use Rattle.conf_text.specs.Places.{Place, Global, Block, Skipped, is_named, is_place}
 use Rattle.conf_text.specs.Sayings.{directive_of, said_at_place, said_there}
-use Rattle.conf_text.specs.Scopes.{ScopeContent, scope_of, address_in, address6_in, routers_in}
+use Rattle.conf_text.specs.ConfScopes.Scopes.{ScopeContent, scope_of, address_in, address6_in, routers_in}
 use Rattle.conf_text.specs.Settings.{identifier_or_hardware, first_router, in_force_among, managed_of, managed_with, settings_for, settings_of}
 use Rattle.conf_text.specs.Standings.{Standing, standing, of_interface, is_global_alone, SaysInBlock, SaysAt, StandsUnder, StandFrom, place_after}
-use Rattle.conf_text.specs.Values.{last_of, metric_said, host_said, vendor_said, identifier_said, ia_said, static_said}
+use Rattle.conf_text.specs.ConfScopes.Values.{last_of, metric_said, host_said, vendor_said, identifier_said, ia_said, static_said}
 use Rattle.conf_laws.proofs.FoundFits.{all_join, either_fits, found_fit}
 use Rattle.conf_laws.proofs.IaFits.{FitMetrics, associations_fit, ias_fit, shared_fit}
 use Rattle.conf_laws.proofs.IaLaws.{few_ias}

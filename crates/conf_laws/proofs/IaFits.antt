@@ -17,7 +17,7 @@ use Rattle.conf_text.specs.Configurations.{Configuration}
 use Rattle.conf_text.specs.Fits.{FitsSpec}
 use Rattle.conf_text.specs.Places.{is_named}
 use Rattle.conf_text.specs.Shares.{given_by, outlet_by, outlet_of, share_of, share_with, shared_by, shares_taken, sla_of, taken_after, taken_with}
-use Rattle.conf_text.specs.Values.{first_said}
+use Rattle.conf_text.specs.ConfScopes.Values.{first_said}
 use Rattle.conf_laws.proofs.FoundFits.{all_made, all_join, all_kept, either_fits, found_fit, found_in}
 use Rattle.conf_text.proofs.OnceLaws.{ia_in}
 use Rattle.conf_laws.proofs.SaidFits.{FitsIa}

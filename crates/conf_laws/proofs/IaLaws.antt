@@ -17,13 +17,13 @@ use Rattle.conf_text.specs.declared.answers.ConfCause.{ConfCause}
 use Rattle.conf_text.specs.declared.answers.ConfCause.TheVariants.{BadArgument, Repeated, TooMany}
 use Rattle.conf_text.specs.declared.answers.ConfFault.{ConfFault}
 use Rattle.conf_text.specs.Faults.{cause_at, cause_of, cause_of_said, fault, fault_at, first_fault, first_from}
-use Rattle.conf_text.specs.Limits.{counts_of, is_repeated, is_too_much}
+use Rattle.conf_text.specs.ConfScopes.Limits.{counts_of, is_repeated, is_too_much}
 use Rattle.conf_text.specs.Places.{Place, Global, Block, Skipped, is_named, is_place}
 use Rattle.conf_text.specs.Sayings.{directive_of, said_at_place, said_for, said_there}
-use Rattle.conf_text.specs.Scopes.{scope_of}
+use Rattle.conf_text.specs.ConfScopes.Scopes.{scope_of}
 use Rattle.conf_text.specs.Standings.{Standing, Stand, StandFrom, Stands, StandsUnder, place_after, place_from}
-use Rattle.conf_text.specs.Steps.{list_with}
-use Rattle.conf_text.specs.Values.{ia_said}
+use Rattle.conf_text.specs.ConfScopes.ScopeSteps.{list_with}
+use Rattle.conf_text.specs.ConfScopes.Values.{ia_said}
 use Rattle.conf_text.proofs.NameLaws.{named_same}
 use Rattle.conf_text.proofs.SayingLaws.{not_there, said_by_text, said_more, stands_there}
 use Rattle.conf_text.proofs.StepLaws.{stand_so}

@@ -13,7 +13,7 @@ use Rattle.settings.specs.declared.dhcp6_conf.IaConf.{IaConf}
 use Rattle.settings.specs.Dhcp6Settings.{conf_key}
 use Rattle.conf_directives.specs.Contents.{IaContent}
 use Rattle.conf_text.specs.Associations.{Association, association, associations, each_once, ias_of, is_kept, is_same_ia}
-use Rattle.conf_text.specs.Limits.{is_same_kind}
+use Rattle.conf_text.specs.ConfScopes.Limits.{is_same_kind}
 use Rattle.conf_text.proofs.OnceLaws.{by_key, ia_in}
 
 same_kind : (kind : IaKind) → is_same_kind kind kind ≡ true

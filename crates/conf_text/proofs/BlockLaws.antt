@@ -8,12 +8,14 @@ use Rattle.indexmap.specs.IndexMap.{insert_entry, set_value_at}
 use Rattle.net_types.specs.declared.interface.Name.{Name}
 use Rattle.conf_directives.specs.Contents.{DirectiveContent}
 use Rattle.conf_text.specs.declared.block_name.BlockName.{BlockName}
-use Rattle.conf_text.specs.declared.scope.Scope.{Scope}
+use Rattle.conf_scopes.specs.declared.scope.Scope.{Scope}
 use Rattle.conf_text.specs.Configurations.{BlockContent}
-use Rattle.conf_text.specs.Contents.{block_content, scope_content}
+use Rattle.conf_scopes.specs.ScopeContents.{scope_content}
+use Rattle.conf_text.specs.Contents.{block_content}
 use Rattle.conf_text.specs.Places.{is_named}
-use Rattle.conf_text.specs.Scopes.{ScopeContent}
-use Rattle.conf_text.specs.Steps.{FitsWords, block_with, first_place, say_at, scope_with, set_to}
+use Rattle.conf_scopes.specs.Scopes.{ScopeContent}
+use Rattle.conf_scopes.specs.ScopeSteps.{FitsWords, scope_with}
+use Rattle.conf_text.specs.Steps.{block_with, first_place, say_at, set_to}
 use Rattle.conf_text.proofs.ListLaws.{first_place_map, position_is}
 
 abbrev pub Entries : Type 0

@@ -10,13 +10,13 @@ use Rattle.conf_directives.specs.declared.names.CodeList.TheVariants.{Asked, Ref
 use Rattle.conf_directives.specs.declared.names.InterfaceList.{InterfaceList}
 use Rattle.conf_directives.specs.declared.names.InterfaceList.TheVariants.{Allowed, Denied}
 use Rattle.conf_directives.specs.Contents.{DirectiveContent, CodesContent}
-use Rattle.conf_text.specs.declared.counting.Counts.{Counts}
+use Rattle.conf_scopes.specs.declared.counting.Counts.{Counts}
 use Rattle.conf_text.specs.Configurations.{interfaces_of}
 use Rattle.conf_text.specs.Faults.{cause_from, cause_of}
-use Rattle.conf_text.specs.Limits.{counts_of, words_in, patterns_in}
-use Rattle.conf_text.specs.Scopes.{scope_of}
-use Rattle.conf_text.specs.Steps.{both_counts, scope_counts}
-use Rattle.conf_text.specs.Values.{codes_said, ia_said, env_said, blacklist_said, interfaces_said}
+use Rattle.conf_scopes.specs.Limits.{counts_of, words_in, patterns_in}
+use Rattle.conf_scopes.specs.Scopes.{scope_of}
+use Rattle.conf_scopes.specs.ScopeSteps.{both_counts, scope_counts}
+use Rattle.conf_scopes.specs.Values.{codes_said, ia_said, env_said, blacklist_said, interfaces_said}
 
 words_join : (list : CodeList) (global block : List DirectiveContent) → words_in list global + words_in list block ≡ words_in list (global ++ block)
 words_join list global block =

@@ -9,7 +9,7 @@ use Rattle.conf_directives.specs.Contents.{IaContent, ia_content}
 use Rattle.conf_text.specs.declared.subject.Subject.{Subject}
 use Rattle.conf_text.specs.Associations.{Association, association, associations, each_once, is_same_ia}
 use Rattle.conf_text.specs.AssociationSteps.{FoundContent, found_of, keeps_in, line_in, lines_in, lines_of, shared_in, with_association, with_line, with_lines}
-use Rattle.conf_text.proofs.ListLaws.{any_in_map}
+use Rattle.conf_scopes.proofs.AnyLaws.{any_in_map}
 use Rattle.conf_text.proofs.OnceLaws.{each_once_more, ia_in}
 
 module _ (index : ℕ) (keeps : IaContent → Bool) (shared : Association → List ShareConf) where

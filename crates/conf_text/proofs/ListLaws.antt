@@ -6,8 +6,8 @@ use Rattle.std.proofs.lemmas.Bool.{le-ltb, lt-ltb, ltb-false, ltb-true}
 use Rattle.std.proofs.lemmas.Grind.{flat_map-append}
 use Rattle.std.proofs.lemmas.List.{append-nil}
 use Rattle.std.proofs.lemmas.List.Elements.{filter_map-append}
-use Rattle.std.proofs.lemmas.List.Folds.{list_any-append}
-use Rattle.conf_text.specs.Steps.{first_place, list_with, list_on}
+use Rattle.conf_scopes.specs.ScopeSteps.{list_with, list_on}
+use Rattle.conf_text.specs.Steps.{first_place}
 
 -- ---- one more at the end
 
@@ -42,16 +42,6 @@ pub lists_found : {C X : Type 0} (f : C → Option (List X)) (cs : List C) (c : 
 lists_found {X = X} f cs c = with_found f (flat_map (λ (ys : List X). ys)) list_on (λ xs. refl) lists_more cs c
 
 -- ---- searches
-
-pub any_in_map : {X Y : Type 0} (p : Y → Bool) (g : X → Y) (xs : List X) → list_any p (map g xs) ≡ list_any (λ x. p (g x)) xs
-any_in_map p g [] = refl
-any_in_map p g (x ∷ xs) = ap (λ b. p (g x) || b) (any_in_map p g xs)
-
-pub any_of_both : {X Y : Type 0} (p : Y → Bool) (g : X → Y) (xs ys : List X)
-    → list_any p (map g xs ++ map g ys) ≡ (list_any (λ x. p (g x)) xs || list_any (λ x. p (g x)) ys)
-any_of_both p g xs ys =
-    list_any-append p (map g xs) (map g ys) ∙ ap (λ b. b || list_any p (map g ys)) (any_in_map p g xs)
-    ∙ ap (λ b. list_any (λ x. p (g x)) xs || b) (any_in_map p g ys)
 
 pub mapped_both : {X Y Z : Type 0} (f : Y → Z) (g : X → Y) (xs ys : List X) → map (λ x. f (g x)) xs ++ map (λ x. f (g x)) ys ≡ map f (map g xs ++ map g ys)
 mapped_both f g [] [] = refl

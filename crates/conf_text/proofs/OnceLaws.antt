@@ -9,7 +9,7 @@ use Rattle.v6_options.specs.declared.ia.IaKind.TheVariants.{Na, Pd}
 use Rattle.settings.specs.declared.dhcp6_conf.IaConf.{IaConf}
 use Rattle.settings.specs.Dhcp6Settings.{conf_key}
 use Rattle.conf_text.specs.Associations.{Association, associations, each_once, is_same_ia}
-use Rattle.conf_text.specs.Limits.{is_same_kind}
+use Rattle.conf_scopes.specs.Limits.{is_same_kind}
 use Rattle.conf_text.specs.AssociationSteps.{once_more}
 
 -- ---- those that are the same

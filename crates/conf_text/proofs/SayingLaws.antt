@@ -12,7 +12,7 @@ use Rattle.conf_directives.specs.Contents.{DirectiveContent}
 use Rattle.conf_text.specs.Places.{Place, Global, Block, Skipped, is_named, is_place, interface_of}
 use Rattle.conf_text.specs.Standings.{Standing, StandsUnder, Stands, StandFrom, place_after, place_from}
 use Rattle.conf_text.specs.Sayings.{directive_of, said_there, said_at_place}
-use Rattle.conf_text.specs.Steps.{list_with}
+use Rattle.conf_scopes.specs.ScopeSteps.{list_with}
 use Rattle.conf_text.proofs.ListLaws.{list_found}
 use Rattle.conf_text.proofs.NameLaws.{place_alike}
 

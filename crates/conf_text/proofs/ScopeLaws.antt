@@ -13,11 +13,11 @@ use Rattle.conf_directives.specs.declared.names.SecondsName.TheVariants.{Timeout
 use Rattle.conf_directives.specs.declared.names.CodeList.{CodeList}
 use Rattle.conf_directives.specs.declared.names.CodeList.TheVariants.{Asked, Refused, Required}
 use Rattle.conf_directives.specs.Contents.{DirectiveContent, CodesContent, StaticContent, Address, Routers, NameServers, DomainName, DomainSearch, Address6}
-use Rattle.conf_text.specs.Flags.{flags_of, flags_with, with_flag}
-use Rattle.conf_text.specs.Times.{times_of, times_with, with_seconds}
-use Rattle.conf_text.specs.Values.{flag_said, seconds_said, metric_said, host_said, vendor_said, identifier_said, codes_said, static_said, ia_said, env_said, blacklist_said}
-use Rattle.conf_text.specs.Scopes.{codes_together, statics_together, scope_of}
-use Rattle.conf_text.specs.Steps.{both_codes, codes_with, with_static, statics_with, scope_with}
+use Rattle.conf_scopes.specs.Flags.{flags_of, flags_with, with_flag}
+use Rattle.conf_scopes.specs.Times.{times_of, times_with, with_seconds}
+use Rattle.conf_scopes.specs.Values.{flag_said, seconds_said, metric_said, host_said, vendor_said, identifier_said, codes_said, static_said, ia_said, env_said, blacklist_said}
+use Rattle.conf_scopes.specs.Scopes.{codes_together, statics_together, scope_of}
+use Rattle.conf_scopes.specs.ScopeSteps.{both_codes, codes_with, with_static, statics_with, scope_with}
 use Rattle.conf_text.proofs.ListLaws.{last_found, list_found, lists_found, with_found}
 
 or-true : (b : Bool) → (b || true) ≡ true

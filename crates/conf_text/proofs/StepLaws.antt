@@ -16,7 +16,7 @@ use Rattle.conf_directives.specs.Contents.{DirectiveContent, SaidContent}
 use Rattle.conf_text.specs.declared.answers.ConfCause.{ConfCause}
 use Rattle.conf_text.specs.declared.answers.ConfCause.TheVariants.{BadArgument, TooMany}
 use Rattle.conf_text.specs.declared.answers.ConfFault.{ConfFault}
-use Rattle.conf_text.specs.declared.counting.TheConstants.{MOST_BLOCKS}
+use Rattle.conf_scopes.specs.declared.counting.TheConstants.{MOST_BLOCKS}
 use Rattle.conf_text.specs.declared.reader.Spot.{Spot}
 use Rattle.conf_text.specs.declared.reader.Spot.TheVariants as Spots
 use Rattle.conf_text.specs.Configurations.{NoticeContent, BlockContent, Configuration, block_of, configured, interfaces_of, notices_of}
@@ -24,10 +24,11 @@ use Rattle.conf_text.specs.Faults.{added, cause_at, cause_from, cause_of, cause_
 use Rattle.conf_text.specs.Laws.{HasFault}
 use Rattle.conf_text.specs.Places.{Place, Global, Block, Skipped, interface_of, is_named}
 use Rattle.conf_text.specs.Sayings.{directive_of, said_there, said_at_place, said_for, said_of}
-use Rattle.conf_text.specs.Scopes.{ScopeContent, scope_of}
+use Rattle.conf_scopes.specs.Scopes.{ScopeContent, scope_of}
 use Rattle.conf_text.specs.Standings.{Standing, Stand, Stands, place_after, place_of}
-use Rattle.conf_text.specs.Steps.{ReadSoFar, IsAt, TakesLine, block_with, both_counts, cause_now, conf_counts, directive_step, enter, entered, first_place, global_with, list_with, noticed_step, notices_with, say_at, say_now, scope_counts, scope_or_empty, step, take_step, taken, with_block}
-use Rattle.conf_text.specs.Values.{interfaces_said, script_said}
+use Rattle.conf_scopes.specs.ScopeSteps.{both_counts, list_with, scope_counts}
+use Rattle.conf_text.specs.Steps.{ReadSoFar, IsAt, TakesLine, block_with, cause_now, conf_counts, directive_step, enter, entered, first_place, global_with, noticed_step, notices_with, say_at, say_now, scope_or_empty, step, take_step, taken, with_block}
+use Rattle.conf_scopes.specs.Values.{interfaces_said, script_said}
 use Rattle.conf_text.proofs.CountLaws.{cause_alone, cause_join}
 use Rattle.conf_text.proofs.ListLaws.{first_place_map, last_found, lists_found, with_found}
 use Rattle.conf_text.proofs.NameLaws.{at_place, named_back, named_same, same_named, none_unlike, set_block, unlike_all, unlike_more}

@@ -9,7 +9,8 @@ use Rattle.conf_directives.specs.Contents.{IaContent, ia_content}
 use Rattle.conf_text.specs.declared.associations.Found.{Found}
 use Rattle.conf_text.specs.declared.subject.Subject.{Subject}
 use Rattle.conf_text.specs.Associations.{Association, association, is_kept, is_same_ia}
-use Rattle.conf_text.specs.Contents.{configuration, scope_content}
+use Rattle.conf_scopes.specs.ScopeContents.{scope_content}
+use Rattle.conf_text.specs.Contents.{configuration}
 use Rattle.conf_text.specs.Shares.{shared_by, taken_with}
 
 -- what global lines and then those of a block say

@@ -5,7 +5,7 @@ use Rattle.std.specs.Option.{is_some}
 use Rattle.settings.specs.declared.dhcp6_conf.IaConf.{IaConf}
 use Rattle.conf_directives.specs.declared.values.ShareLine.{ShareLine}
 use Rattle.conf_directives.specs.Contents.{IaContent}
-use Rattle.conf_text.specs.Limits.{is_ia, is_same_kind}
+use Rattle.conf_scopes.specs.Limits.{is_ia, is_same_kind}
 
 -- what is asked for, and the shares of its line
 pub record Association : Type 0 where

@@ -7,7 +7,7 @@ use Rattle.net_types.specs.NameText.{name_text}
 use Rattle.conf_values.specs.declared.patterns.Pattern.{Pattern}
 use Rattle.conf_values.specs.declared.patterns.Pattern.TheVariants.{Exactly, Any, Beginning}
 use Rattle.conf_text.specs.Places.{is_named}
-use Rattle.conf_text.specs.Scopes.{ScopeContent, scope_of}
+use Rattle.conf_scopes.specs.Scopes.{ScopeContent, scope_of}
 use Rattle.conf_text.specs.Configurations.{BlockContent, Configuration}
 
 -- ---- which are managed

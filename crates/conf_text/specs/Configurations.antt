@@ -14,8 +14,8 @@ use Rattle.conf_text.specs.Numbering.{line_number}
 use Rattle.conf_text.specs.Places.{Global, Block}
 use Rattle.conf_text.specs.Standings.{Standing, Stand}
 use Rattle.conf_text.specs.Sayings.{said_of, said_at_place}
-use Rattle.conf_text.specs.Values.{last_of, interfaces_said, script_said}
-use Rattle.conf_text.specs.Scopes.{ScopeContent, scope_of}
+use Rattle.conf_scopes.specs.Values.{last_of, interfaces_said, script_said}
+use Rattle.conf_scopes.specs.Scopes.{ScopeContent, scope_of}
 use Rattle.conf_text.specs.Faults.{names_in, first_fault, not_text}
 
 -- a word that does nothing, and the line where it stands

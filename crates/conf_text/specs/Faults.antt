@@ -7,13 +7,13 @@ use Rattle.conf_directives.specs.Contents.{DirectiveContent, IaContent, SaidCont
 use Rattle.conf_text.specs.declared.answers.ConfCause.{ConfCause}
 use Rattle.conf_text.specs.declared.answers.ConfCause.TheVariants.{NotText, BadArgument, Repeated, TooMany}
 use Rattle.conf_text.specs.declared.answers.ConfFault.{ConfFault}
-use Rattle.conf_text.specs.declared.counting.Counts.{Counts}
-use Rattle.conf_text.specs.declared.counting.TheConstants.{MOST_BLOCKS}
+use Rattle.conf_scopes.specs.declared.counting.Counts.{Counts}
+use Rattle.conf_scopes.specs.declared.counting.TheConstants.{MOST_BLOCKS}
 use Rattle.conf_text.specs.Places.{Place, Global, is_named, interface_of}
 use Rattle.conf_text.specs.Standings.{Standing}
 use Rattle.conf_text.specs.Sayings.{said_at_place, said_for}
-use Rattle.conf_text.specs.Values.{ia_said}
-use Rattle.conf_text.specs.Limits.{is_repeated, counts_of, is_too_much}
+use Rattle.conf_scopes.specs.Values.{ia_said}
+use Rattle.conf_scopes.specs.Limits.{is_repeated, counts_of, is_too_much}
 use Rattle.conf_text.specs.Numbering.{line_number}
 
 abbrev pub added : List Name → Name → List Name

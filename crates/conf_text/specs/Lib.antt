@@ -2,11 +2,6 @@ pub mod Numbering
 pub mod Places
 pub mod Standings
 pub mod Sayings
-pub mod Values
-pub mod Flags
-pub mod Times
-pub mod Scopes
-pub mod Limits
 pub mod Faults
 pub mod Configurations
 pub mod Contents
@@ -19,3 +14,4 @@ pub mod Steps
 pub mod AssociationSteps
 pub mod Fits
 pub mod SharesTaken
+pub use Rattle.conf_scopes.specs as ConfScopes

@@ -15,12 +15,12 @@ use Rattle.settings.specs.ResolverSettings.{ResolverSettings}
 use Rattle.conf_directives.specs.Contents.{IdentifierContent, Hardware, Bytes, Duid}
 use Rattle.conf_values.specs.Texts.{EnvContent}
 use Rattle.conf_text.specs.Associations.{ias_of}
-use Rattle.conf_text.specs.Scopes.{ScopeContent, StaticsContent}
+use Rattle.conf_scopes.specs.Scopes.{ScopeContent, StaticsContent}
 use Rattle.conf_text.specs.Choosing.{is_managed, scope_for}
 use Rattle.conf_text.specs.Configurations.{Configuration}
 use Rattle.conf_text.specs.Shares.{shares_of}
-use Rattle.conf_text.specs.Times.{times_in_force}
-use Rattle.conf_text.specs.Values.{first_said}
+use Rattle.conf_scopes.specs.Times.{times_in_force}
+use Rattle.conf_scopes.specs.Values.{first_said}
 
 -- ---- what is in force
 

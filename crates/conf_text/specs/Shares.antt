@@ -14,7 +14,7 @@ use Rattle.conf_text.specs.Associations.{Association, associations}
 use Rattle.conf_text.specs.Choosing.{is_managed, scope_for, spec_named}
 use Rattle.conf_text.specs.Configurations.{Configuration}
 use Rattle.conf_text.specs.Places.{is_named}
-use Rattle.conf_text.specs.Values.{first_said}
+use Rattle.conf_scopes.specs.Values.{first_said}
 
 -- ---- which shares are taken
 

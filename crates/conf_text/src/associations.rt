@@ -5,10 +5,10 @@ ghost use Rattle.conf_directives.specs.Contents.{ia_content};
 ghost use Rattle.conf_text.specs.Associations.{associations, ia_with, is_kept, is_same_ia};
 ghost use Rattle.conf_text.specs.AssociationSteps.{contents, found_content, found_of, keeps_in, line_in, lines_in, lines_of, shared_in, with_association};
 
-use crate::counting::{has_ia, is_same_kind};
 use crate::sharing::shared_by;
 use crate::subject::Subject;
 use conf_directives::{IaLine, ShareLine};
+use conf_scopes::{has_ia, is_same_kind};
 use net_types::NoMemory;
 use settings::{IaConf, ShareConf};
 use std::alloc::Global;
@@ -32,7 +32,7 @@ fn ia_with(index: u32, line: &IaLine) -> IaConf
 
 /// Whether a line among the global ones and those of a block is kept: its IAID is written, or the index isn't as that
 /// of its kind.
-#[tactic(auto, using(crate::proofs::ListLaws::any_of_both))]
+#[tactic(auto, using(conf_scopes::proofs::AnyLaws::any_of_both))]
 fn is_kept(index: u32, lines: (&[IaLine], &[IaLine]), line: &IaLine) -> bool
     ensures { result ≡ is_kept index (contents (lines.entry.0.now, lines.entry.1.now)) (ia_content line.now) }
 {

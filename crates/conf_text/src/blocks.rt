@@ -2,14 +2,16 @@
 ghost use Rattle.std.specs.Prelude.{◌≡◌, ◌∷◌, ◌++◌, [], find, map, option_map, slice_get, IfSome, None, OnOk};
 ghost use Rattle.std.specs.Option.{option_copied};
 ghost use Rattle.conf_directives.specs.Contents.{directive_content};
-ghost use Rattle.conf_text.specs.Contents.{block_content, scope_content};
+ghost use Rattle.conf_scopes.specs.ScopeContents.{scope_content};
+ghost use Rattle.conf_text.specs.Contents.{block_content};
 ghost use Rattle.conf_text.specs.Places.{is_named};
-ghost use Rattle.conf_text.specs.Scopes.{scope_of};
-ghost use Rattle.conf_text.specs.Steps.{FitsWords, first_place, say_at};
+ghost use Rattle.conf_scopes.specs.Scopes.{scope_of};
+ghost use Rattle.conf_scopes.specs.ScopeSteps.{FitsWords};
+ghost use Rattle.conf_text.specs.Steps.{first_place, say_at};
 
 use crate::block_name::BlockName;
-use crate::scope::Scope;
 use conf_directives::Directive;
+use conf_scopes::Scope;
 use indexmap::IndexMap;
 use net_types::{Name, NoMemory};
 use std::alloc::Global;

@@ -4,7 +4,7 @@ ghost use Rattle.std.specs.List.{list_any};
 ghost use Rattle.std.specs.Option.{option_copied};
 ghost use Rattle.conf_text.specs.Choosing.{is_managed, is_meant, scope_for, spec_named};
 ghost use Rattle.conf_text.specs.Contents.{configuration};
-ghost use Rattle.conf_text.specs.Values.{first_said};
+ghost use Rattle.conf_scopes.specs.Values.{first_said};
 
 use crate::block_name::is_named;
 use crate::blocks::said_of;

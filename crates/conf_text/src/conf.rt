@@ -2,15 +2,16 @@
 ghost use Rattle.std.specs.Prelude.{◌≡◌, ◌∷◌, ◌++◌, [], map, OnOk};
 ghost use Rattle.conf_directives.specs.Contents.{directive_content};
 ghost use Rattle.conf_text.specs.Configurations.{configured, notice_of};
-ghost use Rattle.conf_text.specs.Contents.{configuration, notice_content, scope_content};
+ghost use Rattle.conf_scopes.specs.ScopeContents.{scope_content};
+ghost use Rattle.conf_text.specs.Contents.{configuration, notice_content};
 ghost use Rattle.conf_text.specs.Settings.{turns_hooks_off};
-ghost use Rattle.conf_text.specs.Steps.{FitsWords, conf_counts, global_with, notices_with};
+ghost use Rattle.conf_scopes.specs.ScopeSteps.{FitsWords};
+ghost use Rattle.conf_text.specs.Steps.{conf_counts, global_with, notices_with};
 
 use crate::answers::line_number;
 use crate::blocks::Blocks;
-use crate::counting::Counts;
-use crate::scope::Scope;
 use conf_directives::{Directive, InterfaceList};
+use conf_scopes::{Counts, Scope};
 use conf_values::Pattern;
 use indexmap::IndexMap;
 use net_types::NoMemory;
@@ -130,7 +131,7 @@ impl Conf {
     }
 
     /// Takes what one global line more says.
-    #[tactic(auto, unfolding(crate::specs::Steps::scope_with))]
+    #[tactic(auto, unfolding(conf_scopes::specs::ScopeSteps::scope_with))]
     pub(crate) fn say(&mut self, directive: Directive) -> Result<(), NoMemory>
         requires { FitsWords (scope_content self.old.global) (directive_content directive) }
         ensures { OnOk result

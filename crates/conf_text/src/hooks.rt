@@ -4,11 +4,12 @@ ghost use Rattle.std.specs.String.{string_bytes};
 ghost use Rattle.world.specs.HookCalls.{variable_of};
 ghost use Rattle.settings.specs.HookSettings.{script_in};
 ghost use Rattle.conf_values.specs.Texts.{env_content};
-ghost use Rattle.conf_text.specs.Contents.{configuration, scope_content};
+ghost use Rattle.conf_scopes.specs.ScopeContents.{scope_content};
+ghost use Rattle.conf_text.specs.Contents.{configuration};
 ghost use Rattle.conf_text.specs.Settings.{hooks_in_force, script_in_force, script_of, variable_said};
 
 use crate::conf::{Conf, NO_HOOKS};
-use crate::scope::Scope;
+use conf_scopes::Scope;
 use conf_values::Env;
 use net_types::NoMemory;
 use settings::{HookConf, Script};

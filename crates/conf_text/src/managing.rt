@@ -3,8 +3,9 @@ ghost use Rattle.std.specs.Prelude.{◌≡◌, ◌++◌, option_and_then, option
 ghost use Rattle.std.specs.List.{cons_option};
 ghost use Rattle.settings.specs.Dhcp4Settings.{identifier_in};
 ghost use Rattle.conf_directives.specs.Contents.{identifier_content};
-ghost use Rattle.conf_text.specs.Values.{first_said};
-ghost use Rattle.conf_text.specs.Contents.{configuration, scope_content};
+ghost use Rattle.conf_scopes.specs.Values.{first_said};
+ghost use Rattle.conf_scopes.specs.ScopeContents.{scope_content};
+ghost use Rattle.conf_text.specs.Contents.{configuration};
 ghost use Rattle.conf_text.specs.Settings.{dhcp4_in_force, dhcp6_in_force, first_router, identifier_or_hardware, in_force, in_force_among};
 ghost use Rattle.conf_text.specs.Settings.{managed_of, managed_with, settings_for, settings_of};
 
@@ -15,9 +16,9 @@ use crate::conf::Conf;
 use crate::hooks::hooks_in_force;
 use crate::lists::{going_on, list_of};
 use crate::resolver::resolver_in_force;
-use crate::scope::Scope;
 use crate::subject::Subject;
 use conf_directives::Identifier as IdentifierSaid;
+use conf_scopes::Scope;
 use net_types::{IfSpec, Ip4, NoMemory};
 use settings::{Dhcp4Conf, Dhcp6Conf, HookConf, Identifier, IfConf, Managed};
 use std::alloc::Global;

@@ -4,7 +4,8 @@ ghost use Rattle.std.specs.Option.{option_copied};
 ghost use Rattle.conf_directives.specs.Contents.{directive_content};
 ghost use Rattle.conf_directives.specs.Names.{heading_at};
 ghost use Rattle.conf_words.specs.Directives.{shown_line};
-ghost use Rattle.conf_text.specs.Contents.{configuration, scope_content};
+ghost use Rattle.conf_scopes.specs.ScopeContents.{scope_content};
+ghost use Rattle.conf_text.specs.Contents.{configuration};
 ghost use Rattle.conf_text.specs.Places.{is_named};
 ghost use Rattle.conf_text.specs.Standings.{is_global_alone};
 ghost use Rattle.conf_text.specs.Steps.{AnswersWith, FitsNow, TakesLine, TakesSaid, begin_reading, block_now, cause_between};
@@ -13,12 +14,11 @@ ghost use Rattle.conf_text.specs.Steps.{cause_now, directive_step, enter, first_
 use crate::answers::{ConfAnswer, ConfCause, fault_at};
 use crate::blocks::{begin, place_of, said_at, say_at};
 use crate::conf::Conf;
-use crate::counting::{Counts, MOST_BLOCKS, is_repeated, is_too_much};
-use crate::scope::Scope;
 use conf_directives::{
     Directive, DirectiveName, HeadingName, IaLine, LineSaid, ValueName, directive_named,
     directive_said, heading_named, interface_said,
 };
+use conf_scopes::{Counts, MOST_BLOCKS, Scope, is_repeated, is_too_much};
 use conf_words::Line;
 use net_types::{Name, NoMemory};
 use std::alloc::Global;

@@ -1,11 +1,11 @@
 //! What is in force for the resolver.
 ghost use Rattle.std.specs.Prelude.{◌≡◌, map, option_map, IfOk};
 ghost use Rattle.std.specs.String.{string_bytes};
-ghost use Rattle.conf_text.specs.Contents.{statics_content};
+ghost use Rattle.conf_scopes.specs.ScopeContents.{statics_content};
 ghost use Rattle.conf_text.specs.Settings.{list_or_none, resolver_in_force};
 
 use crate::lists::list_of;
-use crate::statics::Statics;
+use conf_scopes::Statics;
 use net_types::NoMemory;
 use settings::ResolverConf;
 use std::alloc::{AllocError, Global};

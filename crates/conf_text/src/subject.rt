@@ -2,7 +2,7 @@
 //! block.
 
 use crate::conf::Conf;
-use crate::scope::Scope;
+use conf_scopes::Scope;
 use net_types::IfSpec;
 
 /// An interface of which is made what is in force for it.

@@ -20,11 +20,11 @@ use Rattle.conf_text.specs.Configurations.{BlockContent, Configuration, block_of
 use Rattle.conf_text.specs.Faults.{names_in}
 use Rattle.conf_text.specs.Places.{Block, Global, Place, Skipped, is_named, is_place}
 use Rattle.conf_text.specs.Sayings.{directive_of, said_at_place, said_there}
-use Rattle.conf_text.specs.Scopes.{ScopeContent, name_servers_in, scope_of}
+use Rattle.conf_text.specs.ConfScopes.Scopes.{ScopeContent, name_servers_in, scope_of}
 use Rattle.conf_text.specs.Settings.{managed_of, managed_with, no_hooks, script_in_force, script_of, settings_for, settings_of, variable_said}
 use Rattle.conf_text.specs.Standings.{SaysAt, SaysInBlock, StandFrom, Standing, StandsUnder, is_global_alone, of_interface, place_after, standing}
-use Rattle.conf_text.specs.Values as of
-use Rattle.conf_text.specs.Values.{last_of, env_said, script_said}
+use Rattle.conf_text.specs.ConfScopes.Values as of
+use Rattle.conf_text.specs.ConfScopes.Values.{last_of, env_said, script_said}
 use Rattle.safe_texts.specs.ConfiguredTexts.{ConfiguredTextsAreSafe, HasPlainPath, IsPlainVariable, IsPlainlyConfigured}
 use Rattle.safe_texts.proofs.PlainSayings.{Are4, IsPlainEnv, Plain, PlainSaid, PlainStatic, answer_plain, says_plain, some_guard}
 

@@ -1,6 +1,6 @@
 use Rattle.std.proofs.Common.{[], ◌∷◌, ◌++◌, ◌∙◌, ap, map}
 use Rattle.conf_text.specs.Contents.{block_content}
-use Rattle.conf_text.specs.Scopes.{ScopeContent}
+use Rattle.conf_scopes.specs.Scopes.{ScopeContent}
 use Rattle.conf_text.proofs.BlockLaws.{begun_last}
 use Rattle.conf_text.proofs.blocks.begin.Goals as goal
 

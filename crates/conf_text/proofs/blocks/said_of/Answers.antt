@@ -1,5 +1,5 @@
 use Rattle.std.proofs.Common.{◌∙◌, ap, option_map}
-use Rattle.conf_text.specs.Contents.{scope_content}
+use Rattle.conf_scopes.specs.ScopeContents.{scope_content}
 use Rattle.conf_text.proofs.BlockLaws.{key_scope}
 use Rattle.conf_text.proofs.blocks.said_of.Goals as goal
 

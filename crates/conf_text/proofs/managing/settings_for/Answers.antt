@@ -1,7 +1,7 @@
 use Rattle.std.proofs.Common.{[], Option, ap, ◌∙◌}
 use Rattle.std.specs.Prelude.{unwrap_or}
 use Rattle.conf_text.specs.Contents.{configuration}
-use Rattle.conf_text.specs.Scopes.{ScopeContent, scope_of}
+use Rattle.conf_scopes.specs.Scopes.{ScopeContent, scope_of}
 use Rattle.conf_text.specs.Settings.{in_force_among}
 use Rattle.conf_text.proofs.ResultLaws.{ok_then}
 use Rattle.conf_text.proofs.managing.settings_for.Goals as goal

@@ -4,8 +4,8 @@ use Rattle.settings.specs.declared.times.Times.{Times}
 use Rattle.settings.specs.Times.{usual_times}
 use Rattle.conf_directives.specs.declared.names.SecondsName.{SecondsName}
 use Rattle.conf_directives.specs.declared.names.SecondsName.TheVariants.{Timeout, Reboot}
-use Rattle.conf_text.specs.declared.times.TimesSaid.{TimesSaid}
-use Rattle.conf_text.specs.Values.{first_said, last_of}
+use Rattle.conf_scopes.specs.declared.times.TimesSaid.{TimesSaid}
+use Rattle.conf_scopes.specs.Values.{first_said, last_of}
 
 abbrev pub timeout_in : SecondsName × ℕ → Option ℕ
 timeout_in (Timeout, seconds) = Some seconds

@@ -1,9 +1,9 @@
 //! What the lines of a scope say together.
 ghost use Rattle.std.specs.Prelude.{◌≡◌, ◌+◌, ◌<◌, ◌^◌, [], OnOk};
 ghost use Rattle.conf_directives.specs.Contents.{Codes, codes_content, directive_content};
-ghost use Rattle.conf_text.specs.Contents.{scope_content};
-ghost use Rattle.conf_text.specs.Scopes.{codes_together, scope_of};
-ghost use Rattle.conf_text.specs.Steps.{FitsWords, both_codes, scope_counts, scope_with};
+ghost use Rattle.conf_scopes.specs.ScopeContents.{scope_content};
+ghost use Rattle.conf_scopes.specs.Scopes.{codes_together, scope_of};
+ghost use Rattle.conf_scopes.specs.ScopeSteps.{FitsWords, both_codes, scope_counts, scope_with};
 
 use crate::counting::Counts;
 use crate::flags::turn_on;
@@ -77,7 +77,7 @@ impl Scope {
         }
     }
 
-    #[tactic(auto, unfolding(crate::specs::Steps::scope_with))]
+    #[tactic(auto, unfolding(crate::specs::ScopeSteps::scope_with))]
     fn say_codes(&mut self, list: CodeList, said: CodesSaid) -> Result<(), NoMemory>
         requires { FitsWords (scope_content self.old) (Codes list (codes_content said)) }
         ensures { OnOk result
@@ -91,7 +91,7 @@ impl Scope {
     }
 
     /// Takes what one line more says.
-    #[tactic(auto, unfolding(crate::specs::Steps::scope_with))]
+    #[tactic(auto, unfolding(crate::specs::ScopeSteps::scope_with))]
     pub fn say(&mut self, directive: Directive) -> Result<(), NoMemory>
         requires { FitsWords (scope_content self.old) (directive_content directive) }
         ensures { OnOk result

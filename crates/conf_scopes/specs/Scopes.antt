@@ -8,10 +8,10 @@ use Rattle.conf_directives.specs.declared.names.CodeList.TheVariants.{Asked, Ref
 use Rattle.conf_directives.specs.Contents.{DirectiveContent, IdentifierContent, CodesContent, StaticContent, Address, Routers, NameServers, DomainName, DomainSearch, Address6, IaContent}
 use Rattle.conf_values.specs.Texts.{EnvContent}
 use Rattle.settings.specs.declared.flags.Flags.{Flags}
-use Rattle.conf_text.specs.declared.times.TimesSaid.{TimesSaid}
-use Rattle.conf_text.specs.Flags.{flags_of}
-use Rattle.conf_text.specs.Times.{times_of}
-use Rattle.conf_text.specs.Values.{last_of, flag_said, seconds_said, metric_said, host_said, vendor_said, identifier_said, codes_said, static_said, ia_said, env_said, blacklist_said}
+use Rattle.conf_scopes.specs.declared.times.TimesSaid.{TimesSaid}
+use Rattle.conf_scopes.specs.Flags.{flags_of}
+use Rattle.conf_scopes.specs.Times.{times_of}
+use Rattle.conf_scopes.specs.Values.{last_of, flag_said, seconds_said, metric_said, host_said, vendor_said, identifier_said, codes_said, static_said, ia_said, env_said, blacklist_said}
 
 pub record StaticsContent : Type 0 where
   pub address : Option Net4

@@ -1,6 +1,6 @@
 //! Directives that say a number of seconds, the last of which counts.
 ghost use Rattle.std.specs.Prelude.{◌≡◌, []};
-ghost use Rattle.conf_text.specs.Times.{times_in_force, times_of, with_seconds};
+ghost use Rattle.conf_scopes.specs.Times.{times_in_force, times_of, with_seconds};
 
 use conf_directives::SecondsName;
 use settings::Times;

@@ -8,9 +8,9 @@ use Rattle.conf_directives.specs.declared.names.CodeList.TheVariants.{Asked, Ref
 use Rattle.conf_directives.specs.declared.names.InterfaceList.{InterfaceList}
 use Rattle.conf_directives.specs.declared.names.InterfaceList.TheVariants.{Allowed, Denied}
 use Rattle.conf_directives.specs.Contents.{DirectiveContent, Codes, Static, Ia, Variable, Blacklist, Interfaces, StaticContent, Routers, NameServers, DomainSearch, IaContent}
-use Rattle.conf_text.specs.declared.counting.TheConstants.{MOST_WORDS, MOST_IAS, MOST_SHARES, MOST_MEMBERS}
-use Rattle.conf_text.specs.declared.counting.Counts.{Counts}
-use Rattle.conf_text.specs.Values.{codes_said, ia_said, env_said, blacklist_said, interfaces_said}
+use Rattle.conf_scopes.specs.declared.counting.TheConstants.{MOST_WORDS, MOST_IAS, MOST_SHARES, MOST_MEMBERS}
+use Rattle.conf_scopes.specs.declared.counting.Counts.{Counts}
+use Rattle.conf_scopes.specs.Values.{codes_said, ia_said, env_said, blacklist_said, interfaces_said}
 
 -- ---- what may stand once
 

@@ -1,9 +1,9 @@
 //! The values of `static` lines.
 ghost use Rattle.std.specs.Prelude.{◌≡◌, []};
 ghost use Rattle.conf_directives.specs.Contents.{static_content};
-ghost use Rattle.conf_text.specs.Contents.{statics_content};
-ghost use Rattle.conf_text.specs.Scopes.{statics_together};
-ghost use Rattle.conf_text.specs.Steps.{with_static};
+ghost use Rattle.conf_scopes.specs.ScopeContents.{statics_content};
+ghost use Rattle.conf_scopes.specs.Scopes.{statics_together};
+ghost use Rattle.conf_scopes.specs.ScopeSteps.{with_static};
 
 use conf_directives::StaticValue;
 use net_types::{Ip4, Net4, Net6};

@@ -2,8 +2,8 @@
 ghost use Rattle.std.specs.Prelude.{◌≡◌, ◌+◌, ◌≤◌, ◌++◌, [], length, map, nat_lt};
 ghost use Rattle.std.specs.List.{list_any};
 ghost use Rattle.conf_directives.specs.Contents.{directive_content, ia_content, static_content};
-ghost use Rattle.conf_text.specs.Limits.{counts_of, is_ia, is_repeated, is_same_kind, is_too_much, members, patterns_counted, words_counted};
-ghost use Rattle.conf_text.specs.Steps.{both_counts};
+ghost use Rattle.conf_scopes.specs.Limits.{counts_of, is_ia, is_repeated, is_same_kind, is_too_much, members, patterns_counted, words_counted};
+ghost use Rattle.conf_scopes.specs.ScopeSteps.{both_counts};
 
 use conf_directives::{CodeList, Directive, IaLine, InterfaceList, StaticValue};
 use v6_options::IaKind;
@@ -155,7 +155,7 @@ pub fn has_ia(kind: IaKind, iaid: u32, ias: &[IaLine]) -> bool
 }
 
 /// Whether a line is an identity association whose kind and written IAID stand already.
-#[tactic(auto, using(crate::proofs::ListLaws::any_of_both))]
+#[tactic(auto, using(crate::proofs::AnyLaws::any_of_both))]
 pub fn is_repeated(global: &[IaLine], block: &[IaLine], directive: &Directive) -> bool
     ensures { result
         ≡ is_repeated (map ia_content global.now ++ map ia_content block.now) (directive_content directive.now) }

@@ -1,6 +1,6 @@
 //! Directives of one word, which are on where a line has them.
 ghost use Rattle.std.specs.Prelude.{◌≡◌};
-ghost use Rattle.conf_text.specs.Flags.{with_flag};
+ghost use Rattle.conf_scopes.specs.Flags.{with_flag};
 
 use conf_directives::FlagName;
 use settings::Flags;

@@ -1,0 +1,7 @@
+pub mod Values
+pub mod Flags
+pub mod Times
+pub mod Scopes
+pub mod Limits
+pub mod ScopeSteps
+pub mod ScopeContents
