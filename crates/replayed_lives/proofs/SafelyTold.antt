@@ -1,5 +1,5 @@
 -- In each life hooks and the resolver are told texts that are safe to read, and variables that are what their names say.
-use Rattle.std.proofs.Common.{ℕ, List, ◌∷◌, length, refl, sym, subst, Ok}
+use Rattle.std.proofs.Common.{ℕ, List, [], ◌∷◌, length, refl, sym, subst, Ok}
 use Rattle.std.specs.List.{AllByRecursion}
 use Rattle.std.proofs.lemmas.List.Elements.{recursion_from_All}
 use Rattle.net_types.specs.declared.interface.IfSpec.{IfSpec}
