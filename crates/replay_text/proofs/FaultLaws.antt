@@ -10,18 +10,18 @@ use Rattle.net_types.specs.TextLines.{Line, AreLines, ended, lines_text, Front, 
 use Rattle.net_types.proofs.LineSteps.{text_more}
 use Rattle.net_types.proofs.ReadsLaws.{some_same, split_whole}
 use Rattle.script_model.specs.ScriptTexts.{ScriptLines}
-use Rattle.replay_text.specs.declared.script.ScriptCause.{ScriptCause}
-use Rattle.replay_text.specs.declared.script.ScriptCause.TheVariants as causes
-use Rattle.replay_text.specs.declared.script.ScriptFault.{ScriptFault}
+use Rattle.replay_text.specs.declared.faults.ScriptCause.{ScriptCause}
+use Rattle.replay_text.specs.declared.faults.ScriptCause.TheVariants as causes
+use Rattle.replay_text.specs.declared.faults.ScriptFault.{ScriptFault}
 use Rattle.replay_text.specs.Places.{IsInPlace}
 use Rattle.replay_text.specs.FirstFaults.{known_after, IsOutOfPlace, IsOutOfForm, IsBadFor, end_cause, Why, IsFault, FaultsAreOne}
 use Rattle.replay_text.specs.LinesInOrder.{SpellsScript}
 use Rattle.replay_text.specs.ReadLines.{SpellsRead, AfterLines, After}
-use Rattle.replay_text.specs.ScriptContent.{HoldsLines, conf_lines}
+use Rattle.script_lines.specs.ScriptContent.{HoldsLines, conf_lines}
 use Rattle.replay_text.specs.LinesRead.{LinesRead}
 use Rattle.replay_text.specs.NextWords.{may_come}
 use Rattle.replay_text.specs.ScriptReading.{ScriptRead, step, given, known_cause, line_cause, cause_of}
-use Rattle.replay_text.specs.Words.{Known, word_at, is_text}
+use Rattle.script_lines.specs.Words.{Known, word_at, is_text}
 use Rattle.replay_text.proofs.PlaceLaws.{in_place, place_comes}
 use Rattle.replay_text.proofs.ReadScripts.{completes, takes, ends, whole, are}
 

@@ -29,24 +29,24 @@ use Rattle.script_model.specs.Scripts.{FitsGiven}
 use Rattle.script_model.specs.ScriptTexts.{ScriptLines, LifeScript}
 use Rattle.script_model.specs.Spellings.{AreSpelled}
 use Rattle.script_model.specs.TurnSpellings.{SpellsGiven}
-use Rattle.replay_text.specs.declared.words.Word.{Word}
-use Rattle.replay_text.specs.declared.words.Word.TheVariants.{Head, Conf, Interface, Row, File, Fail, Hook, Start, Turn, Crash}
+use Rattle.script_lines.specs.declared.words.Word.{Word}
+use Rattle.script_lines.specs.declared.words.Word.TheVariants.{Head, Conf, Interface, Row, File, Fail, Hook, Start, Turn, Crash}
 use Rattle.replay_text.specs.Places.{rank, rank_of, interfaces_in, IsInPlace}
 use Rattle.replay_text.specs.LinesInOrder.{head_line, conf_line, row_line, crash_lines, SpellsLife, lives_lines, SpellsScript, script_lines}
 use Rattle.replay_text.specs.ReadLines.{SpellsRead, FitsLast, AfterLines}
-use Rattle.replay_text.specs.ScriptContent.{conf_lines}
+use Rattle.script_lines.specs.ScriptContent.{conf_lines}
 use Rattle.replay_text.specs.LinesRead.{LifeRead, LinesRead, last_life, lives_in, script_in}
 use Rattle.replay_text.specs.NextWords.{none_of, before_lives, before_rows, may_come}
 use Rattle.replay_text.specs.NextLines.{with_turn, with_crash, with_start, with_last}
 use Rattle.replay_text.specs.ScriptReading.{step_after, step}
-use Rattle.replay_text.specs.Words.{word_text, word_at}
-use Rattle.replay_text.proofs.CarrierLaws.{begin_words, begin_spelled}
-use Rattle.replay_text.proofs.CrashLaws.{crash_words, crash_spelled}
-use Rattle.replay_text.proofs.FileLaws.{file_words, file_spelled}
-use Rattle.replay_text.proofs.LineLaws.{spec_text, spec_spelled, fail_words, fail_spelled, turn_words, SpellsTurn, turn_spelled}
+use Rattle.script_lines.specs.Words.{word_text, word_at}
+use Rattle.script_lines.proofs.CarrierLaws.{begin_words, begin_spelled}
+use Rattle.script_lines.proofs.CrashLaws.{crash_words, crash_spelled}
+use Rattle.script_lines.proofs.FileLaws.{file_words, file_spelled}
+use Rattle.script_lines.proofs.LineLaws.{spec_text, spec_spelled, fail_words, fail_spelled, turn_words, SpellsTurn, turn_spelled}
 use Rattle.replay_text.proofs.ReadScripts.{first_begin, first_fits, completed, whole, are, run_lines}
 use Rattle.replay_text.proofs.TakenLines.{taken_is, start_grows, turn_grows, crash_grows}
-use Rattle.replay_text.proofs.WordLaws.{word_begins, blank_word, conf_word}
+use Rattle.script_lines.proofs.WordLaws.{word_begins, blank_word, conf_word}
 
 -- ---- the words of written lines
 

@@ -22,18 +22,18 @@ use Rattle.script_model.specs.FirstFiles.{FitsFile, UnlikeNames}
 use Rattle.script_model.specs.HookAnswers.{FitsAnswer}
 use Rattle.script_model.specs.Scripts.{Unlike, FitsLife, CrashBetween}
 use Rattle.script_model.specs.ScriptTexts.{ScriptLines, LifeScript}
-use Rattle.replay_text.specs.declared.words.Word.TheVariants.{Start}
+use Rattle.script_lines.specs.declared.words.Word.TheVariants.{Start}
 use Rattle.replay_text.specs.LinesInOrder.{head_line}
 use Rattle.replay_text.specs.ReadLines.{SpellsRead, HasPassed, FitsLast, AfterLines, IsAfter, After}
-use Rattle.replay_text.specs.ScriptContent.{conf_lines}
+use Rattle.script_lines.specs.ScriptContent.{conf_lines}
 use Rattle.replay_text.specs.LinesRead.{LifeRead, LinesRead, last_life, lives_in, nothing_read}
 use Rattle.replay_text.specs.NextWords.{may_begin}
 use Rattle.replay_text.specs.NextLines.{with_start}
 use Rattle.replay_text.specs.ScriptReading.{ScriptRead, script_read, step_after, step, given}
-use Rattle.replay_text.specs.Words.{word_text, is_text}
-use Rattle.replay_text.proofs.CarrierLaws.{begin_words, FitsBegin}
-use Rattle.replay_text.proofs.Grown.{pairs_none, pairs_more}
-use Rattle.replay_text.proofs.Printables.{no_feed_in}
+use Rattle.script_lines.specs.Words.{word_text, is_text}
+use Rattle.script_lines.proofs.CarrierLaws.{begin_words, FitsBegin}
+use Rattle.script_lines.proofs.Grown.{pairs_none, pairs_more}
+use Rattle.script_lines.proofs.Printables.{no_feed_in}
 use Rattle.replay_text.proofs.TakenLines.{taken, taken_is, start_grows}
 use Rattle.replay_text.proofs.WholeScripts.{whole_of}
 

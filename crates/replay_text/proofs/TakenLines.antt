@@ -34,30 +34,30 @@ use Rattle.script_model.specs.ScriptTexts.{LifeScript}
 use Rattle.script_model.specs.Spellings.{AreSpelled}
 use Rattle.script_model.specs.TurnSpellings.{SpellsGiven}
 use Rattle.iface_lists.proofs.UnlikeLaws.{by_recursion}
-use Rattle.replay_text.specs.declared.words.Word.{Word}
-use Rattle.replay_text.specs.declared.words.Word.TheVariants.{Head, Conf, Interface, Row, File, Fail, Hook, Start, Turn, Crash}
-use Rattle.replay_text.specs.Clocks.{clock_at, clock_after, clock_through, is_over, is_in_time}
-use Rattle.replay_text.specs.KindTests.{is_listed}
+use Rattle.script_lines.specs.declared.words.Word.{Word}
+use Rattle.script_lines.specs.declared.words.Word.TheVariants.{Head, Conf, Interface, Row, File, Fail, Hook, Start, Turn, Crash}
+use Rattle.script_lines.specs.Clocks.{clock_at, clock_after, clock_through, is_over, is_in_time}
+use Rattle.script_lines.specs.KindTests.{is_listed}
 use Rattle.replay_text.specs.LinesInOrder.{head_line, conf_line, row_line, crash_lines, SpellsLife, lives_lines, script_lines}
 use Rattle.replay_text.specs.ReadLines.{HasPassed, FitsLast, IsSound, AfterLines}
-use Rattle.replay_text.specs.ScriptContent.{conf_lines}
+use Rattle.script_lines.specs.ScriptContent.{conf_lines}
 use Rattle.replay_text.specs.LinesRead.{LifeRead, LinesRead, last_life, lives_in, script_in}
 use Rattle.replay_text.specs.NextWords.{none_of, before_lives, before_polls, before_fails, before_files, before_rows, before_interfaces, may_begin, has_begun, is_going_on, may_come}
 use Rattle.replay_text.specs.NextLines.{after_blank, fits_next, is_new_row, is_new_file, begun, with_turn, with_crash, with_start, with_last, with_line}
 use Rattle.replay_text.specs.ScriptReading.{in_place, step_after}
-use Rattle.replay_text.specs.Words.{Known, word_text, word_at, is_text}
-use Rattle.replay_text.proofs.CarrierLaws.{begin_words, FitsBegin, begin_reads, begin_spelled}
-use Rattle.replay_text.proofs.ClockLaws.{in_time_sound, in_time_whole}
-use Rattle.replay_text.proofs.CrashLaws.{crash_words, crash_reads, crash_spelled}
-use Rattle.replay_text.proofs.FileLaws.{file_words, file_reads, file_spelled, new_unlike}
-use Rattle.replay_text.proofs.Grown.{pairs_more, line_more, behind, spelled_more, none_spelled, once_more}
-use Rattle.replay_text.proofs.LineLaws.{spec_text, FitsSpec, spec_reads, spec_spelled, fail_words, fail_reads, fail_spelled, SpellsTurn, turn_finds, turn_line}
-use Rattle.replay_text.proofs.PollLaws.{poll_reads}
+use Rattle.script_lines.specs.Words.{Known, word_text, word_at, is_text}
+use Rattle.script_lines.proofs.CarrierLaws.{begin_words, FitsBegin, begin_reads, begin_spelled}
+use Rattle.script_lines.proofs.ClockLaws.{in_time_sound, in_time_whole}
+use Rattle.script_lines.proofs.CrashLaws.{crash_words, crash_reads, crash_spelled}
+use Rattle.script_lines.proofs.FileLaws.{file_words, file_reads, file_spelled, new_unlike}
+use Rattle.script_lines.proofs.Grown.{pairs_more, line_more, behind, spelled_more, none_spelled, once_more}
+use Rattle.script_lines.proofs.LineLaws.{spec_text, FitsSpec, spec_reads, spec_spelled, fail_words, fail_reads, fail_spelled, SpellsTurn, turn_finds, turn_line}
+use Rattle.script_lines.proofs.PollLaws.{poll_reads}
 use Rattle.row_texts.proofs.RowLaws.{row_finds}
 use Rattle.row_texts.proofs.SpellingLaws.{Finds}
-use Rattle.replay_text.proofs.ConfLineLaws.{conf_lines_of}
-use Rattle.replay_text.proofs.TestLaws.{interfaces_sound, interfaces_whole, listed_sound}
-use Rattle.replay_text.proofs.WordLaws.{word_is}
+use Rattle.script_lines.proofs.ConfLineLaws.{conf_lines_of}
+use Rattle.script_lines.proofs.TestLaws.{interfaces_sound, interfaces_whole, listed_sound}
+use Rattle.script_lines.proofs.WordLaws.{word_is}
 
 -- ---- what a line that is taken is
 

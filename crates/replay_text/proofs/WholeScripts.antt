@@ -31,31 +31,31 @@ use Rattle.script_model.specs.Spellings.{AreSpelled}
 use Rattle.script_model.specs.TurnSpellings.{SpellsGiven}
 use Rattle.script_model.proofs.SpelledRows.{spelled_printable}
 use Rattle.iface_lists.proofs.UnlikeLaws.{by_recursion}
-use Rattle.replay_text.specs.declared.words.Word.{Word}
-use Rattle.replay_text.specs.declared.words.Word.TheVariants.{Head, Conf, Interface, Row, File, Fail, Hook, Start, Turn, Crash}
-use Rattle.replay_text.specs.Clocks.{clock_at, clock_after, clock_through, is_over, is_in_time}
-use Rattle.replay_text.specs.KindTests.{is_listed}
+use Rattle.script_lines.specs.declared.words.Word.{Word}
+use Rattle.script_lines.specs.declared.words.Word.TheVariants.{Head, Conf, Interface, Row, File, Fail, Hook, Start, Turn, Crash}
+use Rattle.script_lines.specs.Clocks.{clock_at, clock_after, clock_through, is_over, is_in_time}
+use Rattle.script_lines.specs.KindTests.{is_listed}
 use Rattle.replay_text.specs.LinesInOrder.{conf_line, row_line, crash_lines, SpellsLife, lives_lines, script_lines}
-use Rattle.replay_text.specs.ScriptContent.{conf_lines}
+use Rattle.script_lines.specs.ScriptContent.{conf_lines}
 use Rattle.replay_text.specs.LinesRead.{LifeRead, LinesRead, last_life, script_in, nothing_read}
 use Rattle.replay_text.specs.NextWords.{may_begin, may_come}
 use Rattle.replay_text.specs.NextLines.{after_blank, fits_next, is_new_row, is_new_file, with_turn, with_crash, with_start, with_last, with_line}
 use Rattle.replay_text.specs.ScriptReading.{step_after, step}
-use Rattle.replay_text.specs.Words.{word_text, word_at, is_text}
-use Rattle.replay_text.proofs.CarrierLaws.{begin_words, FitsBegin, begin_reads, begin_spelled, begin_printable}
-use Rattle.replay_text.proofs.ClockLaws.{in_time_whole}
-use Rattle.replay_text.proofs.CrashLaws.{crash_words, crash_reads, crash_spelled, crash_printable}
-use Rattle.replay_text.proofs.FileLaws.{file_words, file_reads, file_spelled, file_printable, unlike_new}
-use Rattle.replay_text.proofs.Grown.{all_next, pairs_front, pairs_next, pairs_tail, once_next}
-use Rattle.replay_text.proofs.LineLaws.{spec_text, FitsSpec, spec_reads, spec_spelled, spec_printable, fail_words, fail_reads, fail_spelled, fail_printable, turn_words, SpellsTurn, turn_finds, turn_spelled, turn_printable}
-use Rattle.replay_text.proofs.PollLaws.{poll_reads, poll_printable}
-use Rattle.replay_text.proofs.Printables.{no_feed_in}
+use Rattle.script_lines.specs.Words.{word_text, word_at, is_text}
+use Rattle.script_lines.proofs.CarrierLaws.{begin_words, FitsBegin, begin_reads, begin_spelled, begin_printable}
+use Rattle.script_lines.proofs.ClockLaws.{in_time_whole}
+use Rattle.script_lines.proofs.CrashLaws.{crash_words, crash_reads, crash_spelled, crash_printable}
+use Rattle.script_lines.proofs.FileLaws.{file_words, file_reads, file_spelled, file_printable, unlike_new}
+use Rattle.script_lines.proofs.Grown.{all_next, pairs_front, pairs_next, pairs_tail, once_next}
+use Rattle.script_lines.proofs.LineLaws.{spec_text, FitsSpec, spec_reads, spec_spelled, spec_printable, fail_words, fail_reads, fail_spelled, fail_printable, turn_words, SpellsTurn, turn_finds, turn_spelled, turn_printable}
+use Rattle.script_lines.proofs.PollLaws.{poll_reads, poll_printable}
+use Rattle.script_lines.proofs.Printables.{no_feed_in}
 use Rattle.row_texts.proofs.RowLaws.{row_finds}
 use Rattle.row_texts.proofs.SpellingLaws.{Finds}
-use Rattle.replay_text.proofs.ConfLineLaws.{conf_lines_of}
+use Rattle.script_lines.proofs.ConfLineLaws.{conf_lines_of}
 use Rattle.replay_text.proofs.TakenLines.{lines_ended, through_more}
-use Rattle.replay_text.proofs.TestLaws.{interfaces_whole, listed_whole}
-use Rattle.replay_text.proofs.WordLaws.{blank_word, conf_word}
+use Rattle.script_lines.proofs.TestLaws.{interfaces_whole, listed_whole}
+use Rattle.script_lines.proofs.WordLaws.{blank_word, conf_word}
 
 -- ---- one line
 

@@ -2,14 +2,14 @@
 use Rattle.std.specs.Prelude.{ℕ, ◌≡◌, true, false, List, [], ◌∷◌, Option, Some, None}
 use Rattle.net_types.specs.TextLines.{Line, Front, Whole, Unended, End}
 use Rattle.net_types.specs.FirstBadLine.{FirstBad}
-use Rattle.replay_text.specs.declared.script.ScriptCause.{ScriptCause}
-use Rattle.replay_text.specs.declared.script.ScriptCause.TheVariants as causes
-use Rattle.replay_text.specs.declared.script.ScriptFault.{ScriptFault}
-use Rattle.replay_text.specs.declared.script.ScriptAnswer.{ScriptAnswer}
-use Rattle.replay_text.specs.declared.script.ScriptAnswer.TheVariants as answers
+use Rattle.replay_text.specs.declared.faults.ScriptCause.{ScriptCause}
+use Rattle.replay_text.specs.declared.faults.ScriptCause.TheVariants as causes
+use Rattle.replay_text.specs.declared.faults.ScriptFault.{ScriptFault}
+use Rattle.replay_text.specs.declared.faults.ScriptAnswer.{ScriptAnswer}
+use Rattle.replay_text.specs.declared.faults.ScriptAnswer.TheVariants as answers
 use Rattle.replay_text.specs.LinesInOrder.{SpellsScript}
 use Rattle.replay_text.specs.Places.{IsInPlace}
-use Rattle.replay_text.specs.Words.{Known, word_at, is_text}
+use Rattle.script_lines.specs.Words.{Known, word_at, is_text}
 
 -- the first word of the line after these, where lines begin with it; as the first line one line stands alone
 abbrev pub known_after : List Line → Line → Option Known

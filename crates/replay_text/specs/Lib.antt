@@ -1,14 +1,3 @@
-pub mod LineReading
-pub mod TurnReading
-pub mod FileReading
-pub mod CrashReading
-pub mod PollReading
-pub mod Carriers
-pub mod Blocks
-pub mod ScriptContent
-pub mod Clocks
-pub mod KindTests
-pub mod Words
 pub mod LinesInOrder
 pub mod LinesRead
 pub mod NextWords
@@ -18,3 +7,15 @@ pub mod ReadLines
 pub mod SoFar
 pub mod Places
 pub mod FirstFaults
+pub use Rattle.script_lines.specs as ScriptLines
+pub use Rattle.script_lines.specs.LineReading
+pub use Rattle.script_lines.specs.TurnReading
+pub use Rattle.script_lines.specs.FileReading
+pub use Rattle.script_lines.specs.CrashReading
+pub use Rattle.script_lines.specs.PollReading
+pub use Rattle.script_lines.specs.Carriers
+pub use Rattle.script_lines.specs.Blocks
+pub use Rattle.script_lines.specs.ScriptContent
+pub use Rattle.script_lines.specs.Clocks
+pub use Rattle.script_lines.specs.KindTests
+pub use Rattle.script_lines.specs.Words

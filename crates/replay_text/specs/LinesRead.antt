@@ -6,8 +6,8 @@ use Rattle.world.specs.declared.hooking.Poll.{Poll}
 use Rattle.world.specs.FileLists.{StoreFile}
 use Rattle.script_model.specs.declared.failing.FailLine.{FailLine}
 use Rattle.script_model.specs.ScriptTexts.{ScriptLines, LifeScript}
-use Rattle.replay_text.specs.declared.clock.Clock.{Clock}
-use Rattle.replay_text.specs.ScriptContent.{conf_lines}
+use Rattle.script_lines.specs.declared.clock.Clock.{Clock}
+use Rattle.script_lines.specs.ScriptContent.{conf_lines}
 
 -- a life, and what it knows of moments
 pub record LifeRead : Type 0 where

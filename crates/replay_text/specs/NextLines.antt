@@ -11,18 +11,18 @@ use Rattle.world.specs.FileNames.{is_name}
 use Rattle.world.specs.LinkCalls.{Given}
 use Rattle.world.specs.RowOrder.{has_row}
 use Rattle.script_model.specs.Crashes.{CrashScript}
-use Rattle.replay_text.specs.declared.words.Word.{Word}
-use Rattle.replay_text.specs.declared.words.Word.TheVariants.{Head, Conf, Interface, Row, File, Fail, Hook, Start, Turn, Crash}
-use Rattle.replay_text.specs.Carriers.{begin_at}
-use Rattle.replay_text.specs.Clocks.{clock_at, clock_after}
-use Rattle.replay_text.specs.CrashReading.{crash_at}
-use Rattle.replay_text.specs.FileReading.{file_at}
-use Rattle.replay_text.specs.KindTests.{interfaces_fit, is_listed}
-use Rattle.replay_text.specs.LineReading.{spec_at, fail_at}
+use Rattle.script_lines.specs.declared.words.Word.{Word}
+use Rattle.script_lines.specs.declared.words.Word.TheVariants.{Head, Conf, Interface, Row, File, Fail, Hook, Start, Turn, Crash}
+use Rattle.script_lines.specs.Carriers.{begin_at}
+use Rattle.script_lines.specs.Clocks.{clock_at, clock_after}
+use Rattle.script_lines.specs.CrashReading.{crash_at}
+use Rattle.script_lines.specs.FileReading.{file_at}
+use Rattle.script_lines.specs.KindTests.{interfaces_fit, is_listed}
+use Rattle.script_lines.specs.LineReading.{spec_at, fail_at}
 use Rattle.replay_text.specs.LinesRead.{LifeRead, LinesRead, lives_in}
-use Rattle.replay_text.specs.PollReading.{poll_at}
+use Rattle.script_lines.specs.PollReading.{poll_at}
 use Rattle.row_texts.specs.RowReading.{row_at}
-use Rattle.replay_text.specs.TurnReading.{turn_at}
+use Rattle.script_lines.specs.TurnReading.{turn_at}
 
 abbrev pub after_blank : {X : Type 0} → (List ℕ → Option X) → List ℕ → Option X
 after_blank found rest = after_word (codes " ") found rest

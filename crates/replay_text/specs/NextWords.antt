@@ -1,8 +1,8 @@
 -- Which word the next line may begin with, by what was read.
 use Rattle.std.specs.Prelude.{ℕ, Bool, true, false, not, ◌&&◌, nat_lt, List, [], ◌∷◌, length, Option, Some, None, is_some}
-use Rattle.replay_text.specs.declared.words.Word.{Word}
-use Rattle.replay_text.specs.declared.words.Word.TheVariants.{Head, Conf, Interface, Row, File, Fail, Hook, Start, Turn, Crash}
-use Rattle.replay_text.specs.Clocks.{is_over}
+use Rattle.script_lines.specs.declared.words.Word.{Word}
+use Rattle.script_lines.specs.declared.words.Word.TheVariants.{Head, Conf, Interface, Row, File, Fail, Hook, Start, Turn, Crash}
+use Rattle.script_lines.specs.Clocks.{is_over}
 use Rattle.replay_text.specs.LinesRead.{LifeRead, LinesRead}
 
 abbrev pub none_of : {X : Type 0} → List X → Bool

@@ -3,11 +3,11 @@ use Rattle.std.specs.Prelude.{ℕ, ◌<◌, ◌==◌, nat_le, Bool, List, ◌++�
 use Rattle.std.specs.List.{list_all}
 use Rattle.net_types.specs.TextLines.{Line, lines_text}
 use Rattle.net_types.specs.FirstBadLine.{Begins}
-use Rattle.replay_text.specs.declared.words.Word.{Word}
-use Rattle.replay_text.specs.declared.words.Word.TheVariants.{Head, Conf, Interface, Row, File, Fail, Hook, Start, Turn, Crash}
+use Rattle.script_lines.specs.declared.words.Word.{Word}
+use Rattle.script_lines.specs.declared.words.Word.TheVariants.{Head, Conf, Interface, Row, File, Fail, Hook, Start, Turn, Crash}
 use Rattle.replay_text.specs.LinesInOrder.{SpellsScript}
 use Rattle.replay_text.specs.NextWords.{interface_room}
-use Rattle.replay_text.specs.Words.{Known, word_text, word_at}
+use Rattle.script_lines.specs.Words.{Known, word_text, word_at}
 
 -- before the lives lines stand in the order of their kinds
 abbrev pub rank : Word → ℕ

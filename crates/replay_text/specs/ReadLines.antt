@@ -13,9 +13,9 @@ use Rattle.script_model.specs.RowSpellings.{SpellsRow}
 use Rattle.script_model.specs.Scripts.{FitInterfaces, FitsLife}
 use Rattle.script_model.specs.ScriptTexts.{LifeScript}
 use Rattle.script_model.specs.Spellings.{AreSpelled}
-use Rattle.replay_text.specs.Clocks.{clock_at, clock_through}
+use Rattle.script_lines.specs.Clocks.{clock_at, clock_through}
 use Rattle.replay_text.specs.LinesInOrder.{SpellsLife, SpellsScript, script_lines}
-use Rattle.replay_text.specs.ScriptContent.{conf_lines}
+use Rattle.script_lines.specs.ScriptContent.{conf_lines}
 use Rattle.replay_text.specs.LinesRead.{LifeRead, LinesRead, lives_in, script_in}
 use Rattle.replay_text.specs.ScriptReading.{ScriptRead, step}
 

@@ -3,13 +3,13 @@ use Rattle.std.specs.Prelude.{ℕ, List, bytes_eq, Option, Some, None, option_ma
 use Rattle.net_types.specs.Cutting.{◌>>=◌}
 use Rattle.net_types.specs.TextLines.{Line, Front, Whole, Unended, End}
 use Rattle.script_model.specs.ScriptTexts.{ScriptLines}
-use Rattle.replay_text.specs.declared.script.ScriptCause.{ScriptCause}
-use Rattle.replay_text.specs.declared.script.ScriptCause.TheVariants as causes
+use Rattle.replay_text.specs.declared.faults.ScriptCause.{ScriptCause}
+use Rattle.replay_text.specs.declared.faults.ScriptCause.TheVariants as causes
 use Rattle.replay_text.specs.LinesInOrder.{head_line}
 use Rattle.replay_text.specs.LinesRead.{LinesRead, script_in, nothing_read}
 use Rattle.replay_text.specs.NextLines.{with_line}
 use Rattle.replay_text.specs.NextWords.{may_come}
-use Rattle.replay_text.specs.Words.{Known, word_at, is_text}
+use Rattle.script_lines.specs.Words.{Known, word_at, is_text}
 
 -- ---- the lines one after another; nothing comes before the first one
 

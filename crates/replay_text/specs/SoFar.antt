@@ -1,11 +1,11 @@
 -- What the reader holds of the lines so far.
 use Rattle.std.specs.Prelude.{map, Option, Some, None, option_map}
-use Rattle.replay_text.specs.declared.script.Script.{Script}
+use Rattle.script_lines.specs.declared.script.Script.{Script}
 use Rattle.replay_text.specs.declared.so_far.LastLife.{LastLife}
 use Rattle.replay_text.specs.declared.so_far.LinesSoFar.{LinesSoFar}
 use Rattle.replay_text.specs.declared.reading.ScriptState.{ScriptState}
 use Rattle.replay_text.specs.declared.reading.ScriptState.TheVariants as states
-use Rattle.replay_text.specs.ScriptContent.{life_of, script_of}
+use Rattle.script_lines.specs.ScriptContent.{life_of, script_of}
 use Rattle.replay_text.specs.LinesRead.{LifeRead, LinesRead}
 use Rattle.replay_text.specs.ScriptReading.{ScriptRead}
 

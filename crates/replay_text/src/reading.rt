@@ -4,15 +4,15 @@ ghost use Rattle.net_types.specs.FirstBadLine.{IsSpelled};
 ghost use Rattle.replay_text.specs.FirstFaults.{Why, NamesFault};
 ghost use Rattle.replay_text.specs.LinesInOrder.{SpellsScript};
 ghost use Rattle.replay_text.specs.ReadLines.{After, SpellsRead};
-ghost use Rattle.replay_text.specs.ScriptContent.{script_of, HoldsLines};
+ghost use Rattle.script_lines.specs.ScriptContent.{script_of, HoldsLines};
 ghost use Rattle.replay_text.specs.LinesRead.{LinesRead};
 ghost use Rattle.replay_text.specs.ScriptReading.{ScriptRead, step, given, cause_of};
 ghost use Rattle.replay_text.specs.SoFar.{state_read, script_said};
 
-use crate::script::{Script, ScriptAnswer, ScriptCause, ScriptFault};
+use crate::faults::{ScriptAnswer, ScriptCause, ScriptFault};
 use crate::so_far::LinesSoFar;
-use crate::words::is_text;
 use net_types::{LineFault, LineState, TextFault, read_lines};
+use script_lines::{Script, is_text};
 use std::alloc::Global;
 
 /// What was read of a script.

@@ -2,33 +2,30 @@
 ghost use Rattle.std.specs.Prelude.{◌≡◌, ◌++◌, ◌≤◌, IfOk, IfErr, Some, map, option_map, length};
 ghost use Rattle.net_types.specs.LineReading.{Refuses};
 ghost use Rattle.net_types.specs.TextLines.{Whole, End};
-ghost use Rattle.replay_text.specs.Carriers.{begin_at};
-ghost use Rattle.replay_text.specs.CrashReading.{crash_at};
-ghost use Rattle.replay_text.specs.FileReading.{file_at};
-ghost use Rattle.replay_text.specs.KindTests.{is_listed};
-ghost use Rattle.replay_text.specs.LineReading.{spec_at, fail_at};
-ghost use Rattle.replay_text.specs.PollReading.{poll_at};
-ghost use Rattle.replay_text.specs.TurnReading.{turn_at};
+ghost use Rattle.script_lines.specs.Carriers.{begin_at};
+ghost use Rattle.script_lines.specs.CrashReading.{crash_at};
+ghost use Rattle.script_lines.specs.FileReading.{file_at};
+ghost use Rattle.script_lines.specs.KindTests.{is_listed};
+ghost use Rattle.script_lines.specs.LineReading.{spec_at, fail_at};
+ghost use Rattle.script_lines.specs.PollReading.{poll_at};
+ghost use Rattle.script_lines.specs.TurnReading.{turn_at};
 ghost use Rattle.row_texts.specs.RowReading.{row_at};
-ghost use Rattle.replay_text.specs.ScriptContent.{file_of, given_of, crash_of, life_of};
+ghost use Rattle.script_lines.specs.ScriptContent.{file_of, given_of, crash_of, life_of};
 ghost use Rattle.replay_text.specs.LinesRead.{last_life, nothing_read};
 ghost use Rattle.replay_text.specs.NextWords.{before_lives, before_polls, before_fails, before_files, before_rows, before_interfaces, may_begin, has_begun, is_going_on, may_come};
 ghost use Rattle.replay_text.specs.NextLines.{after_blank, begun, with_turn, with_crash, with_start, with_last, with_line};
 ghost use Rattle.replay_text.specs.ScriptReading.{step_after, cause_of, given_after};
 ghost use Rattle.replay_text.specs.SoFar.{life_read, lines_read, script_said};
-ghost use Rattle.replay_text.specs.declared.words.Word.TheVariants as Word;
+ghost use Rattle.script_lines.specs.declared.words.Word.TheVariants as Word;
 
-use crate::carriers::begin_of;
-use crate::clock::Clock;
-use crate::crashing::crash_of;
-use crate::files::file_of;
-use crate::lines::{fail_of, spec_of, turn_of};
-use crate::polls::poll_of;
-use crate::script::{CrashLine, FileLine, LifeLines, Script, ScriptCause, TurnLine};
+use crate::faults::ScriptCause;
 use crate::unlike::{Interfaces, MOST_INTERFACES, UnlikeFiles, UnlikeRows};
-use crate::words::{Word, is_text, word_of};
 use net_types::{IfSpec, LineFault, NoMemory, strip_word};
 use row_texts::row_of;
+use script_lines::{
+    Clock, CrashLine, FileLine, LifeLines, Script, TurnLine, Word, begin_of, crash_of, fail_of,
+    file_of, is_text, poll_of, spec_of, turn_of, word_of,
+};
 use script_model::FailLine;
 use std::alloc::Global;
 use world::{Begin, Event, HostRow, Poll};

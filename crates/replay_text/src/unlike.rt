@@ -1,13 +1,13 @@
 //! Lines of a kind that must be unlike: interfaces, rows and files, in the order in which they came.
 ghost use Rattle.std.specs.Prelude.{◌≡◌, [], ◌∷◌, ◌++◌, ◌+◌, ◌<◌, ◌≤◌, IfOk, IsTrue, Some, None, length, map, if◌then◌else◌, ◌==◌};
-ghost use Rattle.replay_text.specs.KindTests.{counts_from, interfaces_fit};
-ghost use Rattle.replay_text.specs.ScriptContent.{file_of};
+ghost use Rattle.script_lines.specs.KindTests.{counts_from, interfaces_fit};
+ghost use Rattle.script_lines.specs.ScriptContent.{file_of};
 ghost use Rattle.replay_text.specs.NextWords.{none_of};
 ghost use Rattle.replay_text.specs.NextLines.{fits_next, is_new_row, is_new_file};
 
-use crate::script::FileLine;
 use iface_lists::all_unlike;
 use net_types::{IfSpec, NoMemory};
+use script_lines::FileLine;
 use std::alloc::Global;
 use std::collections::BTreeSet;
 use std::marker::Model;
@@ -33,7 +33,7 @@ fn counts_from(index: u32, specs: &[IfSpec]) -> bool
     }
 }
 
-#[tactic(auto, unfolding(crate::specs::KindTests::interfaces_fit))]
+#[tactic(auto, unfolding(script_lines::specs::KindTests::interfaces_fit))]
 fn interfaces_fit(specs: &[IfSpec]) -> bool
     ensures value { result ≡ interfaces_fit specs.now }
     ensures few { IsTrue result → length specs.now ≤ 64 }
@@ -179,8 +179,8 @@ pub struct UnlikeFiles {
 impl Model for UnlikeFiles {
     ghost use Rattle.std.specs.Prelude.{List, map};
     ghost use Rattle.world.specs.FileLists.{StoreFile};
-    ghost use Rattle.replay_text.specs.ScriptContent.{file_of};
-    ghost use Rattle.replay_text.specs.KindTests.{AreNames};
+    ghost use Rattle.script_lines.specs.ScriptContent.{file_of};
+    ghost use Rattle.script_lines.specs.KindTests.{AreNames};
 
     ghost Value = { List StoreFile };
 

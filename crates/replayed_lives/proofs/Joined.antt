@@ -5,7 +5,7 @@ use Rattle.net_types.specs.declared.interface.IfSpec.{IfSpec}
 use Rattle.settings.specs.declared.interfaces.Managed.{Managed}
 use Rattle.script_model.specs.Lines.{Line}
 use Rattle.script_model.specs.ScriptTexts.{LifeScript}
-use Rattle.replay_text.specs.declared.script.LifeLines.{LifeLines}
+use Rattle.replay_text.specs.ScriptLines.declared.script.LifeLines.{LifeLines}
 use Rattle.replay_text.specs.ScriptContent.{life_of}
 use Rattle.daemon.specs.Streams.{WritesLines, WritesFront}
 use Rattle.daemon.proofs.Stretches.{lines_none, lines_then}

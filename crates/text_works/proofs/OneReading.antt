@@ -5,7 +5,7 @@ use Rattle.lease_text.proofs.SpelledOnce.{no_bad_line}
 use Rattle.script_model.specs.ScriptTexts.{ScriptLines}
 use Rattle.replay_text.specs.FirstFaults.{IsFault}
 use Rattle.replay_text.proofs.FaultLaws.{scripts_are_one}
-use Rattle.replay_text.specs.declared.script.ScriptFault.{ScriptFault}
+use Rattle.replay_text.specs.declared.faults.ScriptFault.{ScriptFault}
 use Rattle.conf_text.specs.Configurations.{Configuration, IsConfOf}
 use Rattle.conf_laws.proofs.OneLaws.{configuration_one}
 use Rattle.conf_text.specs.declared.answers.ConfFault.{ConfFault}

@@ -5,7 +5,7 @@ use Rattle.net_types.specs.declared.interface.IfSpec.{IfSpec}
 use Rattle.settings.specs.Fitting.{AreManaged}
 use Rattle.script_model.specs.ScriptTexts.{ScriptLines}
 use Rattle.script_model.specs.Scripts.{CountsFrom, FitInterfaces, FitsScript}
-use Rattle.replay_text.specs.declared.script.Script.{Script}
+use Rattle.replay_text.specs.ScriptLines.declared.script.Script.{Script}
 use Rattle.replay_text.specs.ScriptContent.{script_of, HoldsLines}
 use Rattle.conf_text.specs.Configurations.{Configuration, IsConfOf}
 use Rattle.conf_text.specs.Contents.{configuration}

@@ -3,7 +3,7 @@ use Rattle.std.specs.Prelude.{ℕ, ◌≡◌, List, Ok}
 use Rattle.conf_text.specs.Configurations.{IsConfOf}
 use Rattle.conf_text.specs.Contents.{configuration}
 use Rattle.script_model.specs.ScriptTexts.{ScriptLines}
-use Rattle.replay_text.specs.declared.script.Script.{Script}
+use Rattle.replay_text.specs.ScriptLines.declared.script.Script.{Script}
 use Rattle.replay_text.specs.ScriptContent.{script_of, HoldsLines}
 use Rattle.text_works.specs.declared.settling.Settled.{Settled}
 use Rattle.text_works.specs.SpelledScripts.{IsScript, Spells, configuration_text, managed_in}

@@ -1,5 +1,5 @@
 use Rattle.std.proofs.Common.{◌∙◌}
-use Rattle.replay_text.proofs.FileLaws.{names_more}
+use Rattle.script_lines.proofs.FileLaws.{names_more}
 use Rattle.replay_text.proofs.unlike.UnlikeFiles.with_new.Goals as goal
 
 pub invariant_of-result : goal.invariant_of-result

@@ -1,4 +1,0 @@
-use Rattle.replay_text.proofs.carriers.+bits_of.Given as goal
-
-abbrev pub decreases-bits_of : goal.decreases-bits_of
-decreases-bits_of l = l.count

@@ -1,0 +1,12 @@
+pub mod BlockLaws
+pub mod ClockLaws
+pub mod TestLaws
+pub mod Printables
+pub mod Grown
+pub mod WordLaws
+pub mod LineLaws
+pub mod PollLaws
+pub mod CarrierLaws
+pub mod FileLaws
+pub mod CrashLaws
+pub mod ConfLineLaws

@@ -1,0 +1,11 @@
+pub mod LineReading
+pub mod TurnReading
+pub mod FileReading
+pub mod CrashReading
+pub mod PollReading
+pub mod Carriers
+pub mod Blocks
+pub mod ScriptContent
+pub mod Clocks
+pub mod KindTests
+pub mod Words
