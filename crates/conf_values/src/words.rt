@@ -81,7 +81,7 @@ pub fn slash_parts(alloc: Global, text: &[u8]) -> Result<Vec<&[u8]>, AllocError>
 }
 
 /// The parts of a text between colons.
-pub fn colon_parts(alloc: Global, text: &[u8]) -> Result<Vec<&[u8]>, AllocError>
+pub(crate) fn colon_parts(alloc: Global, text: &[u8]) -> Result<Vec<&[u8]>, AllocError>
     ensures { IfOk result (λ parts. map (λ part. part.now) parts.items ≡ colon_parts text.now) }
 {
     text.split(|byte| *byte == b':').collect(alloc)

@@ -23,7 +23,7 @@ use Rattle.v6_client.specs.V6Items.declared.scope.Scope6.TheVariants as scope
 use Rattle.v6_client.specs.V6Items.declared.times.TheConstants.{FOREVER, SECOND}
 use Rattle.v6_client.specs.V6Items.Items.{goes_of, ia_with, is_in, is_live, items_at, stays_in, staying, thinned, without}
 use Rattle.v6_client.specs.V6Items.Times.{moment_after}
-use Rattle.v6_client.proofs.V6Items.TakenFits.{kind_is}
+use Rattle.v6_client.proofs.Lease6Text.IaFacts.{kind_is}
 use Rattle.lease_evidence.specs.EvidenceWords.Entries.{Entry}
 use Rattle.lease_evidence.specs.EvidenceWords.Inputs.{Site}
 use Rattle.lease6_evidence.specs.Exchanges6.{Numbered6}

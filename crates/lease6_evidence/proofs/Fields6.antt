@@ -36,7 +36,7 @@ use Rattle.v6_client.specs.Saying.{ias_said, lease_server, plea_ias, plea_server
 use Rattle.v6_client.specs.V6Items.Taking.{item_from}
 use Rattle.v6_client.proofs.V6Items.FitsLists.{fewer}
 use Rattle.v6_client.proofs.V6Items.SaidFits.{saids_fit}
-use Rattle.v6_client.proofs.V6Items.TakenFits.{kind_is}
+use Rattle.v6_client.proofs.Lease6Text.IaFacts.{kind_is}
 use Rattle.lease_evidence.specs.ClientModel.ClientSettings6.{ask_for}
 use Rattle.lease6_evidence.proofs.Basis6.{filter_all}
 use Rattle.lease6_evidence.proofs.Bytes6.{IsTyped, options_typed, take_all}

@@ -25,7 +25,8 @@ use Rattle.v6_client.specs.V6Items.Items.{asked_at, ia_with, ias_of, is_live, it
 use Rattle.v6_client.specs.V6Items.Reading.{ia_for, is_unbound}
 use Rattle.v6_client.specs.V6Items.Taking.{Meeting, carried, ia_granted, ias_granted, is_carried, is_named, item_from, taken_by}
 use Rattle.v6_client.specs.V6Items.Times.{moment_after}
-use Rattle.v6_client.proofs.V6Items.TakenFits.{had_fit, kind_is}
+use Rattle.v6_client.proofs.Lease6Text.IaFacts.{kind_is}
+use Rattle.v6_client.proofs.V6Items.TakenFits.{had_fit}
 use Rattle.v6_client_laws.proofs.Given.{bindings_are_known, items_are_given}
 use Rattle.lease_evidence.specs.EvidenceWords.Entries.{Entry}
 use Rattle.lease_evidence.specs.EvidenceWords.Inputs.{Site}

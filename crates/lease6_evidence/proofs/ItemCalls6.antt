@@ -46,7 +46,7 @@ use Rattle.v6_client.specs.Steps.{expires, is_last, keep_by, loses, tells_partin
 use Rattle.v6_client.specs.Ticks.{restarting_tick, tick_row}
 use Rattle.v6_client_laws.proofs.Lapsing.{start_row}
 use Rattle.v6_client_laws.proofs.Lapsing as lapsing
-use Rattle.v6_client.proofs.V6Items.TakenFits.{kind_is}
+use Rattle.v6_client.proofs.Lease6Text.IaFacts.{kind_is}
 use Rattle.lease_evidence.specs.ClientModel.ClientSettings6.{settings6_of}
 use Rattle.lease_evidence.specs.EvidenceWords.Entries.{Entry}
 use Rattle.lease_evidence.specs.EvidenceWords.Inputs.{Site, index_at}

@@ -13,7 +13,7 @@ use Rattle.lease6_text.specs.LineParts.{is_same_kind}
 use Rattle.settings.specs.declared.interfaces.Managed.{Managed}
 use Rattle.v6_client.specs.V6Items.declared.asks.IaAsk.{IaAsk}
 use Rattle.v6_client.specs.V6Items.Asking.{hinted, ia_solicited}
-use Rattle.v6_client.proofs.V6Items.TakenFits.{kind_is}
+use Rattle.v6_client.proofs.Lease6Text.IaFacts.{kind_is}
 use Rattle.lease_evidence.specs.EvidenceWords.Inputs.{Site}
 use Rattle.lease6_evidence.specs.Exchanges6.{if_own, is_own}
 use Rattle.lease6_evidence.specs.OwnFrames6.{IsOwnFrame6, NamesAll, OwnFrames6Alone, ias_named, ias_wanted}

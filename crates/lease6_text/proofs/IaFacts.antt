@@ -24,7 +24,7 @@ of_test false never = refl
 
 -- ---- the same IA
 
-kind_is : (one other : IaKind) → is_same_kind one other ≡ true → one ≡ other
+pub kind_is : (one other : IaKind) → is_same_kind one other ≡ true → one ≡ other
 kind_is Na Na same = refl
 kind_is Na Pd same = cc
 kind_is Pd Na same = cc
@@ -79,7 +79,7 @@ may_begin_is key ias has few e =
 abbrev net_of : ℕ → ℕ → Net6
 net_of number len = record { ip = record { number = number }; len = len }
 
-net_is : (net : Net6) (item : Item6) → is_of_net net item ≡ true → item.net ≡ net
+pub net_is : (net : Net6) (item : Item6) → is_of_net net item ≡ true → item.net ≡ net
 net_is net item e =
     let parts = and_parts (eqb item.net.ip.number net.ip.number) (eqb item.net.len net.len) e in
     ap (λ number. net_of number item.net.len) (eqb-true _ _ parts.0) ∙ ap (net_of net.ip.number) (eqb-true _ _ parts.1)
@@ -87,7 +87,7 @@ net_is net item e =
 is_own_net : (item : Item6) → is_of_net item.net item ≡ true
 is_own_net item = and_from _ _ (eq-eqb item.net.ip.number item.net.ip.number refl) (eq-eqb item.net.len item.net.len refl)
 
-other_net : (net : Net6) (item : Item6) → is_of_net net item ≡ false → item.net ≢ net
+pub other_net : (net : Net6) (item : Item6) → is_of_net net item ≡ false → item.net ≢ net
 other_net net item e same = let own : is_of_net net item ≡ true = subst (λ n. is_of_net n item ≡ true) same (is_own_net item) in both_ways _ e own
 
 not_that_net : (net : Net6) (item : Item6) → item.net ≢ net → is_of_net net item ≡ false

@@ -9,7 +9,8 @@ ghost use Rattle.world.specs.StoreCalls.{store_number, RemovedFile, SettledFiles
 ghost use Rattle.world.specs.FileLists.{asides};
 ghost use Rattle.lease_file.specs.Quiet.{IsQuiet};
 ghost use Rattle.lease_file.specs.ToldStore.{told_files, told_calls, with_calls};
-ghost use Rattle.lease_file.specs.AsideCalls.{BeginsListing, BeginsRemovals, HasListingCause, HasClearingCause, IsListingForetold, TellsRefusal, SettlesIfAny, FailsNothing, ClearsNothing, any_left, removal_calls, cleared_calls, listing_calls};
+ghost use Rattle.lease_file.specs.AsideCalls.{BeginsListing, BeginsRemovals, HasListingCause, HasClearingCause, IsListingForetold};
+ghost use Rattle.lease_file.specs.AsideCalls.{TellsRefusal, SettlesIfAny, FailsNothing, ClearsNothing, any_left, removal_calls, cleared_calls, listing_calls};
 ghost use Rattle.file_choices.specs.LeftWhole.{LeavesWhole};
 ghost use Rattle.file_choices.specs.StoreWalks.{Answered};
 ghost use Rattle.lease_file.specs.AsideFiles.{without_one, without, TakesFile, TakesFiles};

@@ -10,7 +10,8 @@ ghost use Rattle.lease_text.specs.declared.reading.LeaseLine.TheVariants as Leas
 ghost use Rattle.lease_text.specs.declared.reading.TermLine.TheVariants as TermLine;
 ghost use Rattle.lease_text.specs.Leases.{LeaseContent, lease_content, value_content, values_content};
 ghost use Rattle.lease_text.specs.LeaseLines.{SpellsLease4, interface_word};
-ghost use Rattle.lease_text.specs.LeaseReading.{Reading, reading_of, host_net_at, seconds_at, least_renewal, with_mac, with_confirmed, term_in, after_term, version_at, after_interface, last_code, may_follow, value_at, step, step_at, given, start, After, AnyCause};
+ghost use Rattle.lease_text.specs.LeaseReading.{Reading, reading_of, host_net_at, seconds_at, least_renewal, with_mac, with_confirmed, term_in, after_term};
+ghost use Rattle.lease_text.specs.LeaseReading.{version_at, after_interface, last_code, may_follow, value_at, step, step_at, given, start, After, AnyCause};
 
 use crate::lease::{INFINITE_LEASE, Lease4, Origin, Terms4, VALUE_LIMIT, Value, is_host_address};
 use net_types::{

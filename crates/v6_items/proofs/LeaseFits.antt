@@ -1,4 +1,4 @@
--- The lease that a Reply grants is within the bounds of its text, and so are leases that items go from.
+-- The lease that a Reply grants is within the bounds of its text.
 use Rattle.std.proofs.Common.{◌≡◌, ℕ, ◌+◌, ◌<◌, ◌^◌, true, List, ◌++◌, Option, Some, None, IfSome, option_map, unwrap_or, refl, arith, lit<}
 use Rattle.std.specs.List.{AllByRecursion}
 use Rattle.net_types.specs.Moments.{IsMoment}

@@ -1,13 +1,11 @@
 -- The lease that a Reply grants is within its bounds.
-use Rattle.std.proofs.Common.{◌≡◌, ◌≢◌, ℕ, zero, suc, ◌+◌, ◌<◌, ◌≤◌, Bool, true, false, not, cond, List, [], ◌∷◌, ◌++◌, length, take, drop, set, get_or, fold, Option, Some, None, refl, sym, ap, ◌∙◌, subst, arith, eqb, ltb, length-append, length-set}
+use Rattle.std.proofs.Common.{◌≡◌, ◌≢◌, ℕ, zero, suc, ◌+◌, ◌<◌, ◌≤◌, Bool, true, false, not, cond, List, [], ◌∷◌, ◌++◌, length, take, drop, set, get_or, fold, Option, Some, None, refl, sym, ◌∙◌, subst, arith, eqb, ltb, length-append, length-set}
 use Rattle.std.specs.List.{AllByRecursion, position, position_or_len, remove}
-use Rattle.std.proofs.lemmas.Bool.{and_parts, eqb-true, eq-eqb, ltb-true, ltb-false, and_from, both_ways}
+use Rattle.std.proofs.lemmas.Bool.{and_parts, ltb-true, ltb-false}
 use Rattle.std.proofs.lemmas.List.Quantifiers.{position-Some}
 use Rattle.net_types.proofs.AllLaws.{all_join, all_map}
 use Rattle.net_types.proofs.CaseLaws.{split}
-use Rattle.net_types.specs.declared.address.Net6.{Net6}
 use Rattle.v6_options.specs.declared.ia.IaKind.{IaKind}
-use Rattle.v6_options.specs.declared.ia.IaKind.TheVariants.{Na, Pd}
 use Rattle.v6_options.specs.declared.ia.ItemSaid.{ItemSaid}
 use Rattle.v6_options.specs.Ias.{IaContent}
 use Rattle.lease6_text.specs.declared.lease.Item6.{Item6}
@@ -15,6 +13,7 @@ use Rattle.lease6_text.specs.declared.lease.TheConstants.{ITEM_LIMIT}
 use Rattle.lease6_text.specs.Bounds.{FitsIa, FitsItem}
 use Rattle.lease6_text.specs.Leases.{IaLeaseContent}
 use Rattle.lease6_text.specs.LineParts.{is_ia, is_of_net, is_same_kind}
+use Rattle.lease6_text.proofs.IaFacts.{kind_is, net_is, other_net}
 use Rattle.lease6_text.proofs.Apart.{Apart, apart_from, apart_more, pairs_from}
 use Rattle.v6_items.specs.declared.scope.Scope6.{Scope6}
 use Rattle.v6_items.specs.Items.{items_at}
@@ -25,22 +24,6 @@ use Rattle.v6_items.proofs.FitsLists.{filter_fits, items_of, none_fit}
 
 abbrev Unlike : Item6 → Item6 → Type 0
 Unlike one other = one.net ≢ other.net
-
--- ---- the net of an item
-
-abbrev net_of : ℕ → ℕ → Net6
-net_of number len = record { ip = record { number = number }; len = len }
-
-net_is : (net : Net6) (item : Item6) → is_of_net net item ≡ true → item.net ≡ net
-net_is net item e =
-    let parts = and_parts (eqb item.net.ip.number net.ip.number) (eqb item.net.len net.len) e in
-    ap (λ number. net_of number item.net.len) (eqb-true _ _ parts.0) ∙ ap (net_of net.ip.number) (eqb-true _ _ parts.1)
-
-is_own_net : (item : Item6) → is_of_net item.net item ≡ true
-is_own_net item = and_from _ _ (eq-eqb item.net.ip.number item.net.ip.number refl) (eq-eqb item.net.len item.net.len refl)
-
-other_net : (net : Net6) (item : Item6) → is_of_net net item ≡ false → item.net ≢ net
-other_net net item e same = let own : is_of_net net item ≡ true = subst (λ n. is_of_net n item ≡ true) same (is_own_net item) in both_ways _ e own
 
 -- ---- an item goes
 
@@ -167,12 +150,6 @@ ia_fits kind at scope ia items fits saids =
     (carried_fits kind scope (is_unbound ia) (saids_of ia) items fits) saids
 
 -- ---- the items that an IA had
-
-pub kind_is : (one other : IaKind) → is_same_kind one other ≡ true → one ≡ other
-kind_is Na Na same = refl
-kind_is Na Pd same = cc
-kind_is Pd Na same = cc
-kind_is Pd Pd same = refl
 
 pub had_fit : (kind : IaKind) (iaid : ℕ) (ias : List IaLeaseContent) → AllByRecursion FitsIa ias → FitsItems kind (items_at kind iaid ias)
 had_fit kind iaid [] all = none_fit kind
