@@ -18,7 +18,7 @@ use Rattle.world.specs.declared.wakes.Event.TheVariants.{Frame, Carrier, Duplica
 use Rattle.script_model.specs.Lines.{Line, Turn, event_text, line_words}
 use Rattle.script_model.specs.TurnSpellings.{SpellsEvent}
 use Rattle.row_texts.proofs.SpellingLaws.{Finds, OneText, Parted, one_text, pair_finds}
-use Rattle.replay_text.specs.TurnReading.{Came, switch_at, without_bytes}
+use Rattle.script_lines.specs.TurnReading.{Came, switch_at, without_bytes}
 use Rattle.transcript_text.specs.EventFields.{came_field}
 use Rattle.transcript_text.specs.Fits.{FitsEvent, FitsLine}
 use Rattle.transcript_text.specs.LineShapes.{line_at as printed_at}

@@ -20,11 +20,11 @@ use Rattle.script_model.specs.Lines as Model
 use Rattle.row_texts.specs.RowReading.{row_at}
 use Rattle.row_texts.proofs.RowLaws.{IsSpelledRow as IsRowOf, row_finds}
 use Rattle.row_texts.proofs.SpellingLaws.{Finds, OneText, Parted, one_text, pair_finds}
-use Rattle.replay_text.specs.Carriers.{begin_at}
-use Rattle.replay_text.specs.LineReading.{spec_at}
-use Rattle.replay_text.specs.TurnReading.{Came, moment_at, salt_at}
-use Rattle.replay_text.proofs.CarrierLaws.{FitsBegin, begin_reads, begin_spelled}
-use Rattle.replay_text.proofs.LineLaws.{FitsSpec, moment_lacks, moment_reads, salt_lacks, salt_reads, spec_reads, spec_spelled}
+use Rattle.script_lines.specs.Carriers.{begin_at}
+use Rattle.script_lines.specs.LineReading.{spec_at}
+use Rattle.script_lines.specs.TurnReading.{Came, moment_at, salt_at}
+use Rattle.script_lines.proofs.CarrierLaws.{FitsBegin, begin_reads, begin_spelled}
+use Rattle.script_lines.proofs.LineLaws.{FitsSpec, moment_lacks, moment_reads, salt_lacks, salt_reads, spec_reads, spec_spelled}
 use Rattle.transcript_text.specs.FieldForms.{split_at_last}
 use Rattle.transcript_text.specs.LineFields.{outcome_field}
 use Rattle.transcript_text.specs.Fits.{FitsLine}

@@ -6,8 +6,8 @@ use Rattle.world.specs.declared.rows.HostRow.TheVariants.{Addr, Route}
 use Rattle.script_model.specs.Lines.{Line}
 use Rattle.script_model.specs.Lines as Model
 use Rattle.row_texts.specs.RowReading.{row_at}
-use Rattle.replay_text.specs.Carriers.{begin_at}
-use Rattle.replay_text.specs.LineReading.{spec_at}
+use Rattle.script_lines.specs.Carriers.{begin_at}
+use Rattle.script_lines.specs.LineReading.{spec_at}
 use Rattle.transcript_text.specs.FieldForms.{split_at_last}
 use Rattle.transcript_text.specs.LineFields.{outcome_field}
 use Rattle.transcript_text.specs.LineShapes as shapes

@@ -9,7 +9,7 @@ use Rattle.world.specs.declared.wakes.Event.{Event}
 use Rattle.world.specs.declared.wakes.Event.TheVariants.{Frame, Carrier, Duplicate, Release, Rebind, Stop, Quiet}
 use Rattle.script_model.specs.Lines.{Line}
 use Rattle.script_model.specs.Lines as Model
-use Rattle.replay_text.specs.TurnReading.{Came, moment_at, salt_at, switch_at, without_bytes}
+use Rattle.script_lines.specs.TurnReading.{Came, moment_at, salt_at, switch_at, without_bytes}
 
 abbrev pub index_at : List ℕ → Option ℕ
 index_at text = number_at (2 ^ 32) text

@@ -17,8 +17,8 @@ use crate::lines::ToldLine;
 use crate::role::Role;
 use crate::turns::turn_of;
 use net_types::{NoMemory, end_of, u64_of};
-use replay_text::{begin_of, spec_of};
 use row_texts::row_of;
+use script_lines::{begin_of, spec_of};
 use std::alloc::Global;
 
 /// The most interfaces.

@@ -1,13 +1,13 @@
 //! The lines of turns, read.
 ghost use Rattle.std.specs.Prelude.{◌≡◌, IfOk, option_map};
-ghost use Rattle.replay_text.specs.TurnReading.{without_bytes};
+ghost use Rattle.script_lines.specs.TurnReading.{without_bytes};
 ghost use Rattle.transcript_lines.specs.Contents.{line_of};
 ghost use Rattle.transcript_lines.specs.TurnFields.{came_at, carrier_at, duplicate_at, event_at, frame_at, lone_at, plain_at, rebind_at, release_at, turn_at};
 
 use crate::fields::{index_field_of, index_of};
 use crate::lines::ToldLine;
 use net_types::{NoMemory, end_of, hex_of, ip6_of, strip_word};
-use replay_text::{moment_field_of, salt_field_of, switch_of};
+use script_lines::{moment_field_of, salt_field_of, switch_of};
 use std::alloc::Global;
 use world::Event;
 
