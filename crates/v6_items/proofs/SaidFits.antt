@@ -22,7 +22,7 @@ use Rattle.v6_items.specs.Bounds.{AreTimed, IsTimed}
 use Rattle.v6_items.specs.Reading.{cleared, has_len, ia_for, is_for, is_read, is_readable, is_usable, read_item, read_items, saids_of}
 use Rattle.v6_items.specs.Taking.{item_from}
 use Rattle.v6_items.specs.Times.{moment_after}
-use Rattle.v6_items.proofs.TakenFits.{kind_is}
+use Rattle.lease6_text.proofs.IaFacts.{kind_is}
 
 -- ---- the nets that are read
 
