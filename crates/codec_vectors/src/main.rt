@@ -1,10 +1,8 @@
-//! Answers vectors of the lowest layer, and of the crates that read and write frames and messages of DHCPv4.
+//! Answers vectors of the crates that read and write frames, and options and messages of DHCPv4.
 #![tactic(auto)]
 
-mod addresses;
 mod asking;
 mod frames;
-mod lists;
 mod messages4;
 mod options4;
 
@@ -24,20 +22,6 @@ impl Answers for CodecVectors {
         arguments: &[Vec<u8>],
     ) -> Result<Option<String>, NoMemory> {
         match word {
-            "mac" | "name" | "ip4" | "net4" | "within" | "ip6" | "net6" | "printed-net6" => {
-                addresses::answer(alloc, word, arguments)
-            }
-            "u64"
-            | "below"
-            | "byte"
-            | "hex"
-            | "names"
-            | "addresses"
-            | "strip"
-            | "sum"
-            | "text"
-            | "is-name"
-            | "search" => lists::answer(alloc, word, arguments),
             "eth"
             | "arp"
             | "arp-request"

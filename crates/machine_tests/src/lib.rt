@@ -1,12 +1,8 @@
-//! Test cases of timed machines, what they are built on, and the supervisor of hook children.
+//! Test cases of timed machines, of plans of prefixes, and of the supervisor of hook children.
 #![tactic(auto)]
 
 #[cfg(test)]
 mod arp_acd_cases;
-#[cfg(test)]
-mod compared;
-#[cfg(test)]
-mod counted_search_cases;
 #[cfg(test)]
 mod hook_child_cases;
 #[cfg(test)]
@@ -15,7 +11,5 @@ mod ipv4ll_cases;
 mod machine_cases;
 #[cfg(test)]
 mod prefix_share_cases;
-#[cfg(test)]
-mod timer_queue_cases;
 #[cfg(test)]
 mod v6_retrans_cases;

@@ -1,6 +1,6 @@
 use Rattle.std.specs.List.Sorted.{IsStrictlySortedBy}
 use Rattle.std.specs.Ordering.{nat_cmp, on}
-use Rattle.machine_tests.proofs.timer_queue_cases.each_comparison_of_a_queue_is_a_step.Given as goal
+use Rattle.queue_tests.proofs.timer_queue_cases.each_comparison_of_a_queue_is_a_step.Given as goal
 
 abbrev pub invariant-loop-turn : goal.invariant-loop-turn
 invariant-loop-turn g l = IsStrictlySortedBy (on (λ key. key.number) nat_cmp) l.timers.items
